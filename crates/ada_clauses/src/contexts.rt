@@ -1,6 +1,7 @@
 //! The context clauses of library units (ISO/IEC 8652:2012, 8.4, 10.1.2).
 ghost use Rattle.std.specs.Prelude.{◌≡◌};
-ghost use Rattle.ada_grammar.specs.ReadingUnits.{begins_clause, clause_of, context_of, use_clause_of, with_of};
+ghost use Rattle.ada_grammar.specs.ReadingUnits.{begins_clause, clause_of};
+ghost use Rattle.ada_grammar.specs.ReadingUnits.{context_of, use_clause_of, with_of};
 ghost use Rattle.ada_grammar.specs.Reads.{Reads};
 
 use ada_expressions::{items, name_list};

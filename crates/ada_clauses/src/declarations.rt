@@ -1,6 +1,11 @@
-//! Declarations of objects, exceptions, types and subtypes, and use clauses (ISO/IEC 8652:2012, clauses 3, 8.4 and
-//! 11.1).
-ghost use Rattle.ada_grammar.specs.ReadingDeclarations.{array_of, component_of, components_record_of, definition_of, derived_of, enumeration_of, exception_of, extension_of, initial_of, named_declaration_of, null_record_of, object_of, subtype_of, type_of, use_of};
+//! Declarations of objects, exceptions, types and subtypes, and use clauses (ISO/IEC 8652:2012,
+//! clauses 3, 8.4 and 11.1).
+ghost use Rattle.ada_grammar.specs.ReadingDeclarations.{array_of, component_of};
+ghost use Rattle.ada_grammar.specs.ReadingDeclarations.{components_record_of, definition_of};
+ghost use Rattle.ada_grammar.specs.ReadingDeclarations.{derived_of, enumeration_of};
+ghost use Rattle.ada_grammar.specs.ReadingDeclarations.{exception_of, extension_of, initial_of};
+ghost use Rattle.ada_grammar.specs.ReadingDeclarations.{named_declaration_of, null_record_of};
+ghost use Rattle.ada_grammar.specs.ReadingDeclarations.{object_of, subtype_of, type_of, use_of};
 ghost use Rattle.ada_grammar.specs.Reading.{items_of, sees_identifier};
 ghost use Rattle.ada_grammar.specs.Reads.{Reads};
 

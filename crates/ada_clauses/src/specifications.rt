@@ -1,8 +1,15 @@
-//! Specifications of subprograms, entries, tasks and protected units, with their aspects (ISO/IEC 8652:2012, 6.1, 9.1,
-//! 9.4, 9.5.2, 13.1.1).
+//! Specifications of subprograms, entries, tasks and protected units, with their aspects (ISO/IEC
+//! 8652:2012, 6.1, 9.1, 9.4, 9.5.2, 13.1.1).
 ghost use Rattle.std.specs.Prelude.{◌≡◌, IfOk, map};
 ghost use Rattle.std.specs.Char.{to_ascii_lowercase};
-ghost use Rattle.ada_grammar.specs.ReadingDeclarations.{aspect_of, aspect_value_of, aspects_of, begins_operation, begins_specification, entry_head_of, entry_of, function_of, given_aspects_of, operation_of, overriding_of, private_of, procedure_of, protected_of, specification_of, specified_operation_of, task_definition_of, task_of};
+ghost use Rattle.ada_grammar.specs.ReadingDeclarations.{aspect_of, aspect_value_of, aspects_of};
+ghost use Rattle.ada_grammar.specs.ReadingDeclarations.{begins_operation, begins_specification};
+ghost use Rattle.ada_grammar.specs.ReadingDeclarations.{entry_head_of, entry_of, function_of};
+ghost use Rattle.ada_grammar.specs.ReadingDeclarations.{given_aspects_of, operation_of};
+ghost use Rattle.ada_grammar.specs.ReadingDeclarations.{overriding_of, private_of, procedure_of};
+ghost use Rattle.ada_grammar.specs.ReadingDeclarations.{protected_of, specification_of};
+ghost use Rattle.ada_grammar.specs.ReadingDeclarations.{specified_operation_of};
+ghost use Rattle.ada_grammar.specs.ReadingDeclarations.{task_definition_of, task_of};
 ghost use Rattle.ada_grammar.specs.Reads.{Reads};
 
 use crate::declarations::components;
@@ -298,7 +305,8 @@ fn private_part(
     }
 }
 
-/// `[type] NAME [ASPECTS] is {OPERATION} [private {COMPONENT}] end [NAME];`, behind the `protected` at this place (9.4)
+/// `[type] NAME [ASPECTS] is {OPERATION} [private {COMPONENT}] end [NAME];`, behind the `protected`
+/// at this place (9.4)
 #[tactic(auto, unfolding(ada_grammar::specs::ReadingDeclarations::protected_of))]
 pub fn protected_declaration<Q>(
     alloc: Global,

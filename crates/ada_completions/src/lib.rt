@@ -1,5 +1,6 @@
-//! Completions: the bodies of declared subprograms, and those of task and protected units (ISO/IEC 8652:2012, 3.11.1). Each
-//! function has the name of the definition of `ada_regions` of which it is the counterpart.
+//! Completions: the bodies of declared subprograms, and those of task and protected units (ISO/IEC
+//! 8652:2012, 3.11.1). Each function has the name of the definition of `ada_regions` of which it is
+//! the counterpart.
 #![tactic(auto)]
 
 mod bodies;

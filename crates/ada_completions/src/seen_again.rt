@@ -2,7 +2,8 @@
 ghost use Rattle.std.specs.Prelude.{◌≡◌, Some, IfOk};
 ghost use Rattle.ada_regions.specs.Words.{and_then};
 ghost use Rattle.ada_regions.specs.Names.{kind_at};
-ghost use Rattle.ada_regions.specs.Completions.{is_component, holds_of, is_declared_in_unit, bound_again, seen_among, seen_again};
+ghost use Rattle.ada_regions.specs.Completions.{is_component, holds_of, is_declared_in_unit};
+ghost use Rattle.ada_regions.specs.Completions.{bound_again, seen_among, seen_again};
 
 use ada_entities::{copy, kind_at};
 use ada_regions::{Binding, EntityKind, Names};

@@ -3,7 +3,10 @@ ghost use Rattle.std.specs.Prelude.{◌≡◌, OnOk};
 ghost use Rattle.profile_image.specs.Words.{edit_at};
 ghost use Rattle.ada_regions.specs.Words.{and_then};
 ghost use Rattle.ada_regions.specs.Names.{kind_at};
-ghost use Rattle.ada_regions.specs.Completions.{specified_number, entity_bound, is_specified, completed_in, headed, with_body, with_body_of, numbered_if, body_of_declared, completed_or_declared, completed};
+ghost use Rattle.ada_regions.specs.Completions.{specified_number, entity_bound, is_specified};
+ghost use Rattle.ada_regions.specs.Completions.{completed_in, headed, with_body};
+ghost use Rattle.ada_regions.specs.Completions.{with_body_of, numbered_if, body_of_declared};
+ghost use Rattle.ada_regions.specs.Completions.{completed_or_declared, completed};
 
 use crate::frames::owned;
 use ada_declarations::{hidden, subprogram_declared};
@@ -55,7 +58,8 @@ pub fn is_specified(names: &Names<'_>, entity: u32) -> bool
     number_specified(names, entity).is_some()
 }
 
-/// The subprogram that a body in this region completes: the one that is declared there under its name.
+/// The subprogram that a body in this region completes: the one that is declared there under its
+/// name.
 #[tactic(auto, unfolding(ada_regions::specs::Completions::completed_in))]
 fn completed_in(names: &Names<'_>, region: u32, name: &[u8]) -> Option<u32>
     ensures { result ≡ completed_in names.now region name.now }

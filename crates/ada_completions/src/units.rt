@@ -1,10 +1,16 @@
-//! The bodies of task and protected units, and the names of entry bodies (ISO/IEC 8652:2012, 9.1, 9.4, 9.5.2).
+//! The bodies of task and protected units, and the names of entry bodies (ISO/IEC 8652:2012, 9.1,
+//! 9.4, 9.5.2).
 ghost use Rattle.std.specs.Prelude.{◌≡◌, [], OnOk};
 ghost use Rattle.profile_image.specs.Words.{edit_at};
 ghost use Rattle.ada_regions.specs.Words.{and_then};
 ghost use Rattle.ada_regions.specs.Names.{kind_at, region_of_entity};
 ghost use Rattle.ada_regions.specs.Declaring.{type_of_kind};
-ghost use Rattle.ada_regions.specs.Completions.{body_apart, seen_again, is_of_kind, type_is, is_unit, components_in, components_of, with_scope_of, task_numbered, task_scoped, body_of_unit, has_body, first_body, later_body, body_here, body_elsewhere, body_begun, entry_mentioned};
+ghost use Rattle.ada_regions.specs.Completions.{body_apart, seen_again, is_of_kind, type_is};
+ghost use Rattle.ada_regions.specs.Completions.{is_unit, components_in, components_of};
+ghost use Rattle.ada_regions.specs.Completions.{with_scope_of, task_numbered, task_scoped};
+ghost use Rattle.ada_regions.specs.Completions.{body_of_unit, has_body, first_body};
+ghost use Rattle.ada_regions.specs.Completions.{later_body, body_here, body_elsewhere};
+ghost use Rattle.ada_regions.specs.Completions.{body_begun, entry_mentioned};
 
 use crate::bodies::{body_apart, body_frame};
 use crate::seen_again::seen_again;

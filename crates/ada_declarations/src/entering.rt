@@ -1,7 +1,9 @@
 //! Bindings of names, and entities (ISO/IEC 8652:2012, 3.1, 8.3).
 ghost use Rattle.std.specs.Prelude.{◌≡◌, IfOk, OnOk, is_some};
 ghost use Rattle.ada_regions.specs.Names.{binding_in, enclosure_of};
-ghost use Rattle.ada_regions.specs.Declaring.{with_binding, hidden, is_taken, told_if_taken, with_entity, entered, entered_here, library_frame, unit_is_taken, entered_as_unit};
+ghost use Rattle.ada_regions.specs.Declaring.{with_binding, hidden, is_taken, told_if_taken};
+ghost use Rattle.ada_regions.specs.Declaring.{with_entity, entered, entered_here};
+ghost use Rattle.ada_regions.specs.Declaring.{library_frame, unit_is_taken, entered_as_unit};
 
 use ada_entities::{binding_in, bound_in, copy, enclosure_here, noted, region_here, told};
 use ada_regions::{Binding, Denoted, Enclosure, Entity, EntityKind, NameFault, Names};

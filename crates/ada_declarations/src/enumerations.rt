@@ -3,7 +3,9 @@ ghost use Rattle.std.specs.Prelude.{◌≡◌, map, position, IfOk, OnOk};
 ghost use Rattle.std.specs.List.{position_from};
 ghost use Rattle.std.specs.Str.{bytes_eq};
 ghost use Rattle.ada_regions.specs.Words.{all_of};
-ghost use Rattle.ada_regions.specs.Declaring.{text_of, newest_enumeration, enumeration_subtype, enumeration_declared, position_of_literal, literal_declared};
+ghost use Rattle.ada_regions.specs.Declaring.{text_of, newest_enumeration};
+ghost use Rattle.ada_regions.specs.Declaring.{enumeration_subtype, enumeration_declared};
+ghost use Rattle.ada_regions.specs.Declaring.{position_of_literal, literal_declared};
 
 use crate::entering::{entered_here, number};
 use ada_entities::copy;

@@ -1,5 +1,6 @@
-//! Declarations: what a declaration binds in its region, and what entity it declares (ISO/IEC 8652:2012, 3.1, 8.1, 8.3). Each
-//! function has the name of the definition of `ada_regions` of which it is the counterpart.
+//! Declarations: what a declaration binds in its region, and what entity it declares (ISO/IEC
+//! 8652:2012, 3.1, 8.1, 8.3). Each function has the name of the definition of `ada_regions` of
+//! which it is the counterpart.
 #![tactic(auto)]
 
 mod entering;

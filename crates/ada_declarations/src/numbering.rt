@@ -1,6 +1,7 @@
 //! The numbers that declarations have in the image.
 ghost use Rattle.std.specs.Prelude.{◌≡◌, None, IfOk, OnOk};
-ghost use Rattle.ada_regions.specs.Declaring.{next_declaration, numbered_declaration, numbered, with_region};
+ghost use Rattle.ada_regions.specs.Declaring.{next_declaration, numbered_declaration};
+ghost use Rattle.ada_regions.specs.Declaring.{numbered, with_region};
 
 use crate::entering::number;
 use ada_entities::{copy, expanded};

@@ -1,7 +1,12 @@
-//! Objects, components, parameters, exceptions and labels (ISO/IEC 8652:2012, 3.3.1, 3.8, 5.1, 5.5, 6.1, 11.1).
+//! Objects, components, parameters, exceptions and labels (ISO/IEC 8652:2012, 3.3.1, 3.8, 5.1, 5.5,
+//! 6.1, 11.1).
 ghost use Rattle.std.specs.Prelude.{◌≡◌, OnOk};
 ghost use Rattle.ada_regions.specs.Occurrences.{a_label};
-ghost use Rattle.ada_regions.specs.Declaring.{constant_value, object_number, number_of_object, task_indicated, object_declared, owner_or_none, component_declared, parameter_declared, loop_parameter_declared, exception_declared, declared};
+ghost use Rattle.ada_regions.specs.Declaring.{constant_value, object_number, number_of_object};
+ghost use Rattle.ada_regions.specs.Declaring.{task_indicated, object_declared, owner_or_none};
+ghost use Rattle.ada_regions.specs.Declaring.{component_declared, parameter_declared};
+ghost use Rattle.ada_regions.specs.Declaring.{loop_parameter_declared, exception_declared};
+ghost use Rattle.ada_regions.specs.Declaring.{declared};
 
 use crate::entering::entered_here;
 use crate::numbering::{initial_of, next_declaration, numbered, numbered_declaration};

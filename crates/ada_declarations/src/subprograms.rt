@@ -1,8 +1,11 @@
-//! Subprograms and entries; those of a protected unit stand in its region (ISO/IEC 8652:2012, 6.1, 9.4, 9.5.2).
+//! Subprograms and entries; those of a protected unit stand in its region (ISO/IEC 8652:2012, 6.1,
+//! 9.4, 9.5.2).
 ghost use Rattle.std.specs.Prelude.{◌≡◌, IfOk, OnOk, option_map};
 ghost use Rattle.ada_regions.specs.Names.{innermost_frame};
 ghost use Rattle.ada_regions.specs.Subtypes.{indicated_subtype};
-ghost use Rattle.ada_regions.specs.Declaring.{type_of_kind, owner_type, protected_unit_of, numbered_subprogram, subprogram_declared, entry_unit_in, entry_unit_of, entry_declared};
+ghost use Rattle.ada_regions.specs.Declaring.{type_of_kind, owner_type, protected_unit_of};
+ghost use Rattle.ada_regions.specs.Declaring.{numbered_subprogram, subprogram_declared};
+ghost use Rattle.ada_regions.specs.Declaring.{entry_unit_in, entry_unit_of, entry_declared};
 
 use crate::entering::{entered, entered_here, is_taken, number};
 use ada_entities::{copy, kind_at, owner_here};

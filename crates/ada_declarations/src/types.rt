@@ -3,7 +3,9 @@ ghost use Rattle.std.specs.Prelude.{◌≡◌, OnOk};
 ghost use Rattle.ada_regions.specs.Words.{and_then};
 ghost use Rattle.ada_regions.specs.Names.{denoted_by};
 ghost use Rattle.ada_regions.specs.Subtypes.{mark_denoted};
-ghost use Rattle.ada_regions.specs.Declaring.{is_limited_root, is_limited_parent, numbered_controlled, array_declared, derived_declared, subtype_declared};
+ghost use Rattle.ada_regions.specs.Declaring.{is_limited_root, is_limited_parent};
+ghost use Rattle.ada_regions.specs.Declaring.{numbered_controlled, array_declared};
+ghost use Rattle.ada_regions.specs.Declaring.{derived_declared, subtype_declared};
 
 use crate::entering::{entered_here, number};
 use crate::numbering::with_region;

@@ -1,8 +1,9 @@
-//! Library units, and task and protected units: a type, or a single object of a type without a name (ISO/IEC 8652:2012, 9.1,
-//! 9.4, 10.1).
+//! Library units, and task and protected units: a type, or a single object of a type without a name
+//! (ISO/IEC 8652:2012, 9.1, 9.4, 10.1).
 ghost use Rattle.std.specs.Prelude.{◌≡◌, OnOk};
 ghost use Rattle.ada_regions.specs.Occurrences.{the_package, the_main_procedure};
-ghost use Rattle.ada_regions.specs.Declaring.{unit_entered, task_declared, protected_declared, declared};
+ghost use Rattle.ada_regions.specs.Declaring.{unit_entered, task_declared};
+ghost use Rattle.ada_regions.specs.Declaring.{protected_declared, declared};
 
 use crate::entering::{entered_as_unit, entered_here, number};
 use crate::numbering::{next_declaration, numbered, with_region};

@@ -1,9 +1,12 @@
-//! What names denote, the entities of a text, and the earliest fault of its names (ISO/IEC 8652:2012, 3.1, 8.6).
+//! What names denote, the entities of a text, and the earliest fault of its names (ISO/IEC
+//! 8652:2012, 3.1, 8.6).
 ghost use Rattle.std.specs.Prelude.{◌≡◌, None, OnOk, option_copied};
 ghost use Rattle.world_tables.specs.Tables.{item_at};
 ghost use Rattle.ada_regions.specs.Completions.{holds_of};
 ghost use Rattle.ada_regions.specs.Regions.{is_package, is_used_package};
-ghost use Rattle.ada_regions.specs.Names.{place_of_fault, earlier, told, noted_among, noted_in, noted, denoted_at, last_part, denoted_by, entity_at, kind_at, region_of_entity, entity_of, entity_denoted};
+ghost use Rattle.ada_regions.specs.Names.{place_of_fault, earlier, told, noted_among, noted_in};
+ghost use Rattle.ada_regions.specs.Names.{noted, denoted_at, last_part, denoted_by, entity_at};
+ghost use Rattle.ada_regions.specs.Names.{kind_at, region_of_entity, entity_of, entity_denoted};
 
 use crate::places::stands_before;
 use ada_regions::{Denoted, Entity, EntityKind, NameFault, Names};

@@ -1,7 +1,8 @@
 //! The regions that are open (ISO/IEC 8652:2012, 8.1).
 ghost use Rattle.std.specs.Prelude.{◌≡◌, OnOk};
 ghost use Rattle.world_tables.specs.Lists.{rest_of};
-ghost use Rattle.ada_regions.specs.Names.{no_frame, innermost_frame, enclosure_of, opened, region_here, enclosure_here, scope_in, scope_of_loops};
+ghost use Rattle.ada_regions.specs.Names.{no_frame, innermost_frame, enclosure_of, opened};
+ghost use Rattle.ada_regions.specs.Names.{region_here, enclosure_here, scope_in, scope_of_loops};
 ghost use Rattle.ada_regions.specs.Regions.{ended};
 
 use ada_regions::{Enclosure, Frame, Names};
@@ -97,7 +98,8 @@ pub fn ended(names: &mut Names<'_>)
     names.frames.pop_front();
 }
 
-/// The scope that has the cells of what stands in these frames; that of the environment outside all others.
+/// The scope that has the cells of what stands in these frames; that of the environment outside all
+/// others.
 pub fn scope_in(frames: &List<Frame>) -> u32
     ensures { result ≡ scope_in frames.now }
 {

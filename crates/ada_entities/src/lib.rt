@@ -1,5 +1,6 @@
-//! The table of the names of a text: what is looked up in it, and how it is changed (ISO/IEC 8652:2012, 8.1, 8.3).
-//! Each function has the name of the definition of `ada_regions` of which it is the counterpart.
+//! The table of the names of a text: what is looked up in it, and how it is changed (ISO/IEC
+//! 8652:2012, 8.1, 8.3). Each function has the name of the definition of `ada_regions` of which it
+//! is the counterpart.
 #![tactic(auto)]
 
 mod bindings;

@@ -32,11 +32,13 @@ module _ {A : Type 0} (begins : List Lexeme → Bool) (item : Parser A) where
   one_read turn end found ls m x whole p e f is =
       sym (goes_on (end - (turn + 1)) found ls m x e f) ∙ one_more (λ n. items_from begins item n found ls) whole turn end p is
 
-  stops_at : (fuel : ℕ) (found : List A) (ls : List Lexeme) (why : Stuck) → begins ls ≡ true → item ls ≡ Err why → items_from begins item (suc fuel) found ls ≡ Err why
+  stops_at : (fuel : ℕ) (found : List A) (ls : List Lexeme) (why : Stuck) → begins ls ≡ true → item ls ≡ Err why
+      → items_from begins item (suc fuel) found ls ≡ Err why
   unfolding items_from
   stops_at fuel found ls why e f = rw (e, f) refl
 
-  pub one_stops : (turn end : ℕ) (found : List A) (ls : List Lexeme) (why : OrMemory Stuck) (whole : Read (List A)) → turn < end → begins ls ≡ true → Stopped why (item ls)
+  pub one_stops : (turn end : ℕ) (found : List A) (ls : List Lexeme) (why : OrMemory Stuck) (whole : Read (List A)) → turn < end → begins ls ≡ true
+      → Stopped why (item ls)
       → items_from begins item (end - turn) found ls ≡ whole → Stopped why whole
   one_stops turn end found ls answer.Memory whole p e f is = tt
   one_stops turn end found ls (answer.Fault why) whole p e f is =

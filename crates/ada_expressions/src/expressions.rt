@@ -1,7 +1,15 @@
-//! Expressions (ISO/IEC 8652:2012, 4.4). The productions take the reader of the expressions in brackets as a
-//! parameter, so that each is proved by itself.
+//! Expressions (ISO/IEC 8652:2012, 4.4). The productions take the reader of the expressions in
+//! brackets as a parameter, so that each is proved by itself.
 ghost use Rattle.std.specs.Prelude.{◌≡◌, IfOk};
-ghost use Rattle.ada_grammar.specs.ReadingExpressions.{addend_of, addition_behind_of, adds, argument_of, arguments_of, bracketed_of, compared_of, expression_of, factor_of, first_term_of, formed, given_arguments_of, highest_of, inner_of, joined_of, logical_of, multiplied_of, multiplies, named_argument_of, named_of, operand_of, primary_of, product_of, relation_of, signed_of, sum_of, term_of};
+ghost use Rattle.ada_grammar.specs.ReadingExpressions.{addend_of, addition_behind_of, adds};
+ghost use Rattle.ada_grammar.specs.ReadingExpressions.{argument_of, arguments_of, bracketed_of};
+ghost use Rattle.ada_grammar.specs.ReadingExpressions.{compared_of, expression_of, factor_of};
+ghost use Rattle.ada_grammar.specs.ReadingExpressions.{first_term_of, formed};
+ghost use Rattle.ada_grammar.specs.ReadingExpressions.{given_arguments_of, highest_of, inner_of};
+ghost use Rattle.ada_grammar.specs.ReadingExpressions.{joined_of, logical_of, multiplied_of};
+ghost use Rattle.ada_grammar.specs.ReadingExpressions.{multiplies, named_argument_of, named_of};
+ghost use Rattle.ada_grammar.specs.ReadingExpressions.{operand_of, primary_of, product_of};
+ghost use Rattle.ada_grammar.specs.ReadingExpressions.{relation_of, signed_of, sum_of, term_of};
 ghost use Rattle.ada_expressions.specs.Inside.{ReadsInside};
 ghost use Rattle.ada_grammar.specs.Reads.{Reads};
 
@@ -477,7 +485,8 @@ pub fn expression(
     .logical(cursor)
 }
 
-/// `[(ARGUMENT {, ARGUMENT})]`, where `left` levels may still be opened; empty where no bracket stands (4.1.1, 6.4).
+/// `[(ARGUMENT {, ARGUMENT})]`, where `left` levels may still be opened; empty where no bracket
+/// stands (4.1.1, 6.4).
 pub fn arguments(
     alloc: Global,
     cursor: &mut Cursor<'_>,

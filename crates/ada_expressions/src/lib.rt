@@ -1,5 +1,5 @@
-//! Names, expressions, subtype indications and parameters, read from a cursor over tokens (ISO/IEC 8652:2012, 3.2.2, clause 4,
-//! 6.1).
+//! Names, expressions, subtype indications and parameters, read from a cursor over tokens (ISO/IEC
+//! 8652:2012, 3.2.2, clause 4, 6.1).
 #![tactic(auto)]
 
 mod expressions;

@@ -1,8 +1,10 @@
-//! Lists of parts: reading goes on as long as a part begins, or as long as a delimiter stands between two of them.
+//! Lists of parts: reading goes on as long as a part begins, or as long as a delimiter stands
+//! between two of them.
 ghost use Rattle.std.specs.Prelude.{Bool, List};
 ghost use Rattle.ada_lex.specs.DelimiterLetters.{delimiter_letters};
 ghost use Rattle.ada_tree.specs.Written.{Lexeme};
-ghost use Rattle.ada_grammar.specs.Reading.{Parser, behind_delimiter_of, items_of, sees_delimiter, separated_of};
+ghost use Rattle.ada_grammar.specs.Reading.{Parser, behind_delimiter_of, items_of};
+ghost use Rattle.ada_grammar.specs.Reading.{sees_delimiter, separated_of};
 ghost use Rattle.ada_grammar.specs.Reads.{Reads};
 ghost use Rattle.ada_expressions.specs.Parts.{ReadsAs, TestsAs};
 

@@ -2,7 +2,12 @@
 ghost use Rattle.std.specs.Prelude.{◌≡◌, codes};
 ghost use Rattle.ada_tree.specs.SpellingExpressions.{highest_text, sign_text};
 ghost use Rattle.ada_grammar.specs.Reading.{sees_word, the_delimiter, the_word};
-ghost use Rattle.ada_grammar.specs.ReadingExpressions.{addition_of, adds, again_of, attribute_word_of, both_words_of, compares, comparison_of, conjunction_of, designator_of, disjunction_of, joins, logical_operator_of, logical_text, multiplication_of, multiplies};
+ghost use Rattle.ada_grammar.specs.ReadingExpressions.{addition_of, adds, again_of};
+ghost use Rattle.ada_grammar.specs.ReadingExpressions.{attribute_word_of, both_words_of};
+ghost use Rattle.ada_grammar.specs.ReadingExpressions.{compares, comparison_of, conjunction_of};
+ghost use Rattle.ada_grammar.specs.ReadingExpressions.{designator_of, disjunction_of, joins};
+ghost use Rattle.ada_grammar.specs.ReadingExpressions.{logical_operator_of, logical_text};
+ghost use Rattle.ada_grammar.specs.ReadingExpressions.{multiplication_of, multiplies};
 ghost use Rattle.ada_grammar.specs.Reads.{Reads};
 
 use ada_grammar::{Cursor, Stuck};

@@ -1,6 +1,8 @@
 //! Subtype indications and parameters (ISO/IEC 8652:2012, 3.2.2, 6.1).
 ghost use Rattle.std.specs.Prelude.{◌≡◌, ◌∷◌, IfOk};
-ghost use Rattle.ada_grammar.specs.ReadingSimple.{access_of, bounds_of, constraint_of, given_parameters_of, parameter_of, parameters_of, range_of, subtype_indication_of};
+ghost use Rattle.ada_grammar.specs.ReadingSimple.{access_of, bounds_of, constraint_of};
+ghost use Rattle.ada_grammar.specs.ReadingSimple.{given_parameters_of, parameter_of};
+ghost use Rattle.ada_grammar.specs.ReadingSimple.{parameters_of, range_of, subtype_indication_of};
 ghost use Rattle.ada_grammar.specs.Reading.{below};
 ghost use Rattle.ada_grammar.specs.Reads.{Reads};
 

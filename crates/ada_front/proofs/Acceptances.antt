@@ -14,15 +14,27 @@ use Rattle.ada_verdicts.specs.declared.refusals.Refusal.{Refusal}
 use Rattle.ada_verdicts.specs.Accepted.{Accepted, AcceptedTokens, AcceptedTree}
 
 -- what is accepted of the tree that tokens spell is accepted of the tokens
-pub tokens_accepted : (source : List ℕ) (tokens : List Token) (tree : Tree) (r : Result Image (OrMemory Refusal)) → SpellsTokens tree (lexemes_of source tokens) → is_shaped tree ≡ true →
+pub tokens_accepted : (source : List ℕ) (tokens : List Token) (tree : Tree) (r : Result Image (OrMemory Refusal)) → SpellsTokens tree (lexemes_of source tokens)
+    → is_shaped tree ≡ true →
     IfOk r (λ image. AcceptedTree tree image) → IfOk r (λ image. AcceptedTokens source tokens image)
 tokens_accepted source tokens tree (Ok image) spelt shaped a =
     record { tree = tree; spelt = spelt; shaped = shaped; named = a.named; unbroken = a.unbroken; built = a.built; numbered = a.numbered }
 tokens_accepted source tokens tree (Err refused) spelt shaped a = tt
 
-accepted_of : (source : List ℕ) (tokens : List Token) (r : Result Image (OrMemory Refusal)) → Lexed source tokens → IfOk r (λ image. AcceptedTokens source tokens image) → IfOk r (λ image. Accepted source image)
+accepted_of : (source : List ℕ) (tokens : List Token) (r : Result Image (OrMemory Refusal)) → Lexed source tokens
+    → IfOk r (λ image. AcceptedTokens source tokens image) → IfOk r (λ image. Accepted source image)
 accepted_of source tokens (Ok image) lexed a =
-    record { tokens = tokens; lexed = lexed; tree = a.tree; spelt = a.spelt; shaped = a.shaped; named = a.named; unbroken = a.unbroken; built = a.built; numbered = a.numbered }
+    record {
+      tokens = tokens;
+      lexed = lexed;
+      tree = a.tree;
+      spelt = a.spelt;
+      shaped = a.shaped;
+      named = a.named;
+      unbroken = a.unbroken;
+      built = a.built;
+      numbered = a.numbered;
+    }
 accepted_of source tokens (Err refused) lexed a = tt
 
 -- what is accepted of the tokens of a source is accepted of the source
@@ -40,9 +52,18 @@ tokens_in other (Ok tokens) = tokens
 tokens_in other (Err fault) = other
 
 of_source : (source : List ℕ) (image : Image) (a : Accepted source image) → AcceptedTokens source a.tokens image
-of_source source image a = record { tree = a.tree; spelt = a.spelt; shaped = a.shaped; named = a.named; unbroken = a.unbroken; built = a.built; numbered = a.numbered }
+of_source source image a = record {
+  tree = a.tree;
+  spelt = a.spelt;
+  shaped = a.shaped;
+  named = a.named;
+  unbroken = a.unbroken;
+  built = a.built;
+  numbered = a.numbered;
+}
 
-pub only_of_source : (source : List ℕ) (seen tokens : List Token) (r : Result Image (OrMemory Refusal)) → seen ≡ tokens → ((others : List Token) → Lexed source others → lexed_as others ≡ Ok tokens) →
+pub only_of_source : (source : List ℕ) (seen tokens : List Token) (r : Result Image (OrMemory Refusal)) → seen ≡ tokens
+    → ((others : List Token) → Lexed source others → lexed_as others ≡ Ok tokens) →
     ((image : Image) → AcceptedTokens source seen image → Answers r (Ok image)) → (image : Image) → Accepted source image → Answers r (Ok image)
 only_of_source source seen tokens r same only judges image a =
     judges image (subst (λ ts. AcceptedTokens source ts image) (ap (tokens_in tokens) (only a.tokens a.lexed) ∙ sym same) (of_source source image a))

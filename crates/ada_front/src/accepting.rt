@@ -9,7 +9,8 @@ ghost use Rattle.ada_legality.specs.Faults.{first_fault_of};
 ghost use Rattle.ada_image.specs.BuiltUnits.{unit_built};
 ghost use Rattle.ada_image.specs.ImageOfUnits.{program_of};
 ghost use Rattle.profile_image.specs.declared.image.Image.{Image};
-ghost use Rattle.ada_verdicts.specs.Accepted.{Accepted, AcceptedTokens, AcceptedTree, judged, by_grammar, by_names, by_rules, by_forms};
+ghost use Rattle.ada_verdicts.specs.Accepted.{Accepted, AcceptedTokens, AcceptedTree, judged};
+ghost use Rattle.ada_verdicts.specs.Accepted.{by_grammar, by_names, by_rules, by_forms};
 
 use ada_legality::Fault;
 use ada_lex::{MAX_SOURCE, Token, lex};

@@ -10,8 +10,12 @@ use Rattle.ada_tree.specs.declared.declarations.OperationBody.{OperationBody}
 use Rattle.ada_tree.specs.declared.declarations.Declaration.TheVariants as declarations
 use Rattle.ada_tree.specs.declared.declarations.OperationBody.TheVariants as bodies
 use Rattle.ada_tree.specs.Written.{Lexeme}
-use Rattle.ada_grammar.specs.Reading.{Parser, ◌>>=◌, ◌>>◌, pure, choose, sees_word, sees_delimiter, sees_identifier, the_word, the_delimiter, an_identifier, end_name_of, opening_is_of, below, items_of}
-use Rattle.ada_grammar.specs.ReadingDeclarations.{begins_operation, begins_specification, entry_head_of, named_declaration_of, protected_of, specification_of, subtype_of, task_of, type_of, use_of}
+use Rattle.ada_grammar.specs.Reading.{Parser, ◌>>=◌, ◌>>◌, pure, choose, sees_word}
+use Rattle.ada_grammar.specs.Reading.{sees_delimiter, sees_identifier, the_word, the_delimiter}
+use Rattle.ada_grammar.specs.Reading.{an_identifier, end_name_of, opening_is_of, below, items_of}
+use Rattle.ada_grammar.specs.ReadingDeclarations.{begins_operation, begins_specification, entry_head_of}
+use Rattle.ada_grammar.specs.ReadingDeclarations.{named_declaration_of, protected_of, specification_of}
+use Rattle.ada_grammar.specs.ReadingDeclarations.{subtype_of, task_of, type_of, use_of}
 
 -- ---- bodies, given how a sequence is read one level further in
 

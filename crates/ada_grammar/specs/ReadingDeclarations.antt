@@ -17,7 +17,9 @@ use Rattle.ada_tree.specs.declared.declarations.Declaration.TheVariants as decla
 use Rattle.ada_tree.specs.declared.declarations.TypeDefinition.TheVariants as definitions
 use Rattle.ada_tree.specs.declared.declarations.ProtectedOperation.TheVariants as operations
 use Rattle.ada_tree.specs.Written.{Lexeme}
-use Rattle.ada_grammar.specs.Reading.{Parser, ◌>>=◌, ◌>>◌, pure, choose, sees_word, sees_delimiter, sees_identifier, the_word, the_delimiter, an_identifier, flag_of, end_name_of, opening_of, below, items_of, behind_delimiter_of, identifiers_of, name_of}
+use Rattle.ada_grammar.specs.Reading.{Parser, ◌>>=◌, ◌>>◌, pure, choose, sees_word, sees_delimiter, sees_identifier}
+use Rattle.ada_grammar.specs.Reading.{the_word, the_delimiter, an_identifier, flag_of, end_name_of, opening_of}
+use Rattle.ada_grammar.specs.Reading.{below, items_of, behind_delimiter_of, identifiers_of, name_of}
 use Rattle.ada_grammar.specs.ReadingExpressions.{expression_of}
 use Rattle.ada_grammar.specs.ReadingSimple.{bounds_of, subtype_indication_of, parameters_of}
 

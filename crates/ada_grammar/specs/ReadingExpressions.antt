@@ -25,7 +25,10 @@ use Rattle.ada_tree.specs.declared.expressions.AttributeDesignator.{AttributeDes
 use Rattle.ada_tree.specs.declared.expressions.Argument.{Argument}
 use Rattle.ada_tree.specs.Written.{Lexeme}
 use Rattle.ada_tree.specs.SpellingExpressions.{relational_text, adding_text, sign_text, highest_text, attribute_text}
-use Rattle.ada_grammar.specs.Reading.{Parser, ◌>>=◌, ◌>>◌, pure, nothing, choose, is_this_delimiter, is_identifier, is_numeral, is_string, starts, starts_both, sees_word, sees_delimiter, the_word, the_delimiter, an_identifier, a_number, a_text, opening_of, items_of, behind_delimiter_of, name_of}
+use Rattle.ada_grammar.specs.Reading.{Parser, ◌>>=◌, ◌>>◌, pure, nothing, choose, is_this_delimiter}
+use Rattle.ada_grammar.specs.Reading.{is_identifier, is_numeral, is_string, starts, starts_both, sees_word}
+use Rattle.ada_grammar.specs.Reading.{sees_delimiter, the_word, the_delimiter, an_identifier, a_number}
+use Rattle.ada_grammar.specs.Reading.{a_text, opening_of, items_of, behind_delimiter_of, name_of}
 
 -- an expression of this form
 abbrev pub formed : ExpressionForm Expression → Expression

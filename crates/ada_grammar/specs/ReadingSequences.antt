@@ -7,7 +7,8 @@ use Rattle.ada_tree.specs.declared.statements.Sequence.{Sequence, roll-Sequence}
 use Rattle.ada_tree.specs.declared.statements.SequenceRole.{SequenceRole}
 use Rattle.ada_tree.specs.declared.statements.SequenceRole.TheVariants as role
 use Rattle.ada_tree.specs.declared.declarations.Declaration.{Declaration}
-use Rattle.ada_grammar.specs.Reading.{Parser, ◌>>=◌, ◌>>◌, pure, nothing, too_deep, choose, sees_word, the_word, the_delimiter, items_of}
+use Rattle.ada_grammar.specs.Reading.{Parser, ◌>>=◌, ◌>>◌, pure, nothing, too_deep, choose}
+use Rattle.ada_grammar.specs.Reading.{sees_word, the_word, the_delimiter, items_of}
 use Rattle.ada_grammar.specs.ReadingSimple.{exceptions_of}
 use Rattle.ada_grammar.specs.ReadingStatements.{begins_statement, statement_inside_of}
 use Rattle.ada_grammar.specs.ReadingBodies.{begins_declaration, declaration_of}

@@ -20,7 +20,10 @@ use Rattle.ada_tree.specs.declared.statements.Statement.TheVariants as statement
 use Rattle.ada_tree.specs.declared.statements.Choice.TheVariants as choices
 use Rattle.ada_tree.specs.declared.statements.Iteration.TheVariants as iterations
 use Rattle.ada_tree.specs.declared.statements.HandledExceptions.TheVariants as exceptions
-use Rattle.ada_grammar.specs.Reading.{Parser, ◌>>=◌, ◌>>◌, pure, nothing, choose, sees_word, sees_delimiter, sees_identifier, the_word, the_delimiter, an_identifier, flag_of, end_name_of, opening_of, below, items_of, behind_delimiter_of, identifiers_of, name_of, names_of}
+use Rattle.ada_grammar.specs.Reading.{Parser, ◌>>=◌, ◌>>◌, pure, nothing, choose, sees_word}
+use Rattle.ada_grammar.specs.Reading.{sees_delimiter, sees_identifier, the_word, the_delimiter}
+use Rattle.ada_grammar.specs.Reading.{an_identifier, flag_of, end_name_of, opening_of, below, items_of}
+use Rattle.ada_grammar.specs.Reading.{behind_delimiter_of, identifiers_of, name_of, names_of}
 use Rattle.ada_grammar.specs.ReadingExpressions.{expression_of, inner_of, arguments_of}
 
 -- ---- subtype indications and parameters (3.2.2, 6.1)
@@ -139,7 +142,9 @@ delay_of left = do
 unfoldable pub value_choice_of : ℕ → Parser Choice
 value_choice_of left = do
   low ← expression_of left
-  choose (sees_delimiter (codes "..")) (do the_delimiter (codes ".."); high ← expression_of left; pure (choices.Range low high)) (pure (choices.Value low))
+  choose (sees_delimiter (codes ".."))
+      (do the_delimiter (codes ".."); high ← expression_of left; pure (choices.Range low high))
+      (pure (choices.Value low))
 
 unfoldable pub choice_of : ℕ → Parser Choice
 choice_of left =

@@ -23,9 +23,12 @@ use Rattle.ada_tree.specs.declared.selects.SelectForm.TheVariants as select
 use Rattle.ada_tree.specs.declared.selects.Alternative.TheVariants as alternative
 use Rattle.ada_tree.specs.declared.selects.Trigger.TheVariants as trigger
 use Rattle.ada_tree.specs.Written.{Lexeme}
-use Rattle.ada_grammar.specs.Reading.{Parser, ◌>>=◌, ◌>>◌, pure, nothing, too_deep, choose, is_identifier, is_this_delimiter, starts_both, sees_word, sees_identifier, the_word, the_delimiter, an_identifier, end_name_of, items_of, separated_of}
+use Rattle.ada_grammar.specs.Reading.{Parser, ◌>>=◌, ◌>>◌, pure, nothing, too_deep, choose, is_identifier}
+use Rattle.ada_grammar.specs.Reading.{is_this_delimiter, starts_both, sees_word, sees_identifier, the_word}
+use Rattle.ada_grammar.specs.Reading.{the_delimiter, an_identifier, end_name_of, items_of, separated_of}
 use Rattle.ada_grammar.specs.ReadingExpressions.{expression_of}
-use Rattle.ada_grammar.specs.ReadingSimple.{parameters_of, simple_of, call_of, delay_of, choice_of, iteration_of, label_end_of, exit_of, null_of, return_of, raise_of, abort_of, requeue_of}
+use Rattle.ada_grammar.specs.ReadingSimple.{parameters_of, simple_of, call_of, delay_of, choice_of, iteration_of}
+use Rattle.ada_grammar.specs.ReadingSimple.{label_end_of, exit_of, null_of, return_of, raise_of, abort_of, requeue_of}
 
 -- ---- what begins a statement
 

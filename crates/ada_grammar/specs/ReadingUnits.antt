@@ -1,5 +1,6 @@
 -- Reading library units and a source (2.8, clause 7, 10.1).
-use Rattle.std.specs.Prelude.{ℕ, ◌-◌, ◌++◌, length, Result, zero, suc, Bool, true, false, ◌||◌, List, [], ◌∷◌, Option, Some, None, Ok, Err, codes}
+use Rattle.std.specs.Prelude.{ℕ, ◌-◌, ◌++◌, length, Result, zero, suc, Bool, true, false}
+use Rattle.std.specs.Prelude.{◌||◌, List, [], ◌∷◌, Option, Some, None, Ok, Err, codes}
 use Rattle.ann_base.specs.declared.places.Place.{Place}
 use Rattle.ada_tree.specs.declared.units.TheConstants.{MAX_NESTING}
 use Rattle.ada_tree.specs.declared.statements.Sequence.{Sequence}
@@ -17,7 +18,9 @@ use Rattle.ada_grammar.specs.declared.stuck.Stuck.{Stuck}
 use Rattle.ada_grammar.specs.declared.stuck.Stuck.TheVariants as stuck
 use Rattle.ada_grammar.specs.declared.faults.ParseFault.{ParseFault}
 use Rattle.ada_grammar.specs.declared.faults.ParseFault.TheVariants as faults
-use Rattle.ada_grammar.specs.Reading.{Read, Parser, ◌>>=◌, ◌>>◌, pure, choose, sees_word, the_word, the_delimiter, an_identifier, end_name_of, opening_of, opening_is_of, below, items_of, separated_of, names_of}
+use Rattle.ada_grammar.specs.Reading.{Read, Parser, ◌>>=◌, ◌>>◌, pure, choose, sees_word, the_word}
+use Rattle.ada_grammar.specs.Reading.{the_delimiter, an_identifier, end_name_of, opening_of}
+use Rattle.ada_grammar.specs.Reading.{opening_is_of, below, items_of, separated_of, names_of}
 use Rattle.ada_grammar.specs.ReadingExpressions.{inner_of, argument_of}
 use Rattle.ada_grammar.specs.ReadingDeclarations.{aspects_of}
 use Rattle.ada_grammar.specs.ReadingBodies.{body_of}

@@ -7,7 +7,11 @@ ghost use Rattle.ada_lex.specs.DelimiterLetters.{delimiter_letters};
 ghost use Rattle.ada_tree.specs.Written.{lexeme_of, lexemes_of};
 ghost use Rattle.ann_base.specs.declared.faults.OrMemory.TheVariants as answer;
 ghost use Rattle.ada_grammar.specs.declared.stuck.Stuck.TheVariants.{At, TooDeep};
-ghost use Rattle.ada_grammar.specs.Reading.{is_this_word, is_this_delimiter, is_identifier, is_numeral, is_string, starts, starts_both, sees_word, sees_delimiter, sees_identifier, the_word, the_delimiter, an_identifier, a_number, a_text, flag_of, end_name_of, opening_of, opening_is_of};
+ghost use Rattle.ada_grammar.specs.Reading.{is_this_word, is_this_delimiter, is_identifier};
+ghost use Rattle.ada_grammar.specs.Reading.{is_numeral, is_string, starts, starts_both};
+ghost use Rattle.ada_grammar.specs.Reading.{sees_word, sees_delimiter, sees_identifier, the_word};
+ghost use Rattle.ada_grammar.specs.Reading.{the_delimiter, an_identifier, a_number, a_text};
+ghost use Rattle.ada_grammar.specs.Reading.{flag_of, end_name_of, opening_of, opening_is_of};
 ghost use Rattle.ada_grammar.specs.Reads.{Reads};
 
 use crate::stuck::Stuck;
@@ -115,7 +119,8 @@ impl<'a> Cursor<'a> {
         }
     }
 
-    /// Whether the next token is a word that is spelt so, in any case, as the names of attributes and constructs are.
+    /// Whether the next token is a word that is spelt so, in any case, as the names of attributes
+    /// and constructs are.
     #[tactic(auto, unfolding(crate::specs::Reading::starts))]
     pub fn is_spelt(&self, text: &[u8]) -> bool
         ensures { result ≡ sees_word (map to_ascii_lowercase text.now) self.now }
@@ -282,7 +287,8 @@ impl<'a> Cursor<'a> {
         }
     }
 
-    /// Reads a text, and answers its place and what stands between its quotation marks, a doubled mark once.
+    /// Reads a text, and answers its place and what stands between its quotation marks, a doubled
+    /// mark once.
     #[tactic(auto, unfolding(crate::specs::Reading::token, crate::specs::Reading::a_text))]
     pub fn text(&mut self, alloc: Global) -> Result<(Place, Bytes), OrMemory<Stuck>>
         ensures { Reads result self.new (a_text self.old) }

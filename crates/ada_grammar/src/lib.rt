@@ -1,4 +1,5 @@
-//! The grammar as a function that reads tokens, production by production, and why a source is not read.
+//! The grammar as a function that reads tokens, production by production, and why a source is not
+//! read.
 #![tactic(auto)]
 
 mod cursor;

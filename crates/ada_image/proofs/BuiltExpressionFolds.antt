@@ -21,7 +21,8 @@ use Rattle.ada_regions.specs.declared.table.Names.{Names}
 use Rattle.ada_regions.specs.PredefinedUnits.{names_of_formals}
 use Rattle.ada_regions.specs.Names.{denoted_by, kind_at}
 use Rattle.ada_image.specs.ImageOfExpressions.{is_for, argument_from, arguments_from, actuals_for, first_argument}
-use Rattle.ada_image.specs.BuiltExpressions.{Built, entity_built, function_built, is_there, is_built_if_there, operation_built, item_built, denoted_built, named_built, operands_built, addends_built, factors_built, form_built, same_built, built_layer, expression_built}
+use Rattle.ada_image.specs.BuiltExpressions.{Built, entity_built, function_built, is_there, is_built_if_there, operation_built, item_built, denoted_built}
+use Rattle.ada_image.specs.BuiltExpressions.{named_built, operands_built, addends_built, factors_built, form_built, same_built, built_layer, expression_built}
 use Rattle.ada_image.specs.Making.{first_given}
 
 module _ (w : Expression → Built) (n : Names) where
@@ -32,12 +33,14 @@ module _ (w : Expression → Built) (n : Names) where
     operands_of_map [] = refl
     operands_of_map (o ∷ os) = rw (same o, operands_of_map os) refl
 
-  module _ (g : Addend Expression → Addend Built) (same : (a : Addend Expression) → g a ≡ record { place = a.place; operator = a.operator; term = w a.term }) where
+  module _ (g : Addend Expression → Addend Built)
+      (same : (a : Addend Expression) → g a ≡ record { place = a.place; operator = a.operator; term = w a.term }) where
     addends_of_map : (items : List (Addend Expression)) → addends_built same_built (map g items) n ≡ addends_built w items n
     addends_of_map [] = refl
     addends_of_map (a ∷ rest) = rw (same a, addends_of_map rest) refl
 
-  module _ (g : Multiplied Expression → Multiplied Built) (same : (m : Multiplied Expression) → g m ≡ record { place = m.place; operator = m.operator; factor = w m.factor }) where
+  module _ (g : Multiplied Expression → Multiplied Built)
+      (same : (m : Multiplied Expression) → g m ≡ record { place = m.place; operator = m.operator; factor = w m.factor }) where
     factors_of_map : (items : List (Multiplied Expression)) → factors_built same_built (map g items) n ≡ factors_built w items n
     factors_of_map [] = refl
     factors_of_map (m ∷ rest) = rw (same m, factors_of_map rest) refl
@@ -49,23 +52,27 @@ module _ (w : Expression → Built) (n : Names) where
   found false x t s e = e
 
   actual_of_map : (o : Operation) (x : Option Expression)
-      → function_built o (is_there same_built (option_map w x) n) (is_built_if_there same_built (option_map w x) n) ≡ function_built o (is_there w x n) (is_built_if_there w x n)
+      → function_built o (is_there same_built (option_map w x) n) (is_built_if_there same_built (option_map w x) n)
+      ≡ function_built o (is_there w x n) (is_built_if_there w x n)
   actual_of_map o None = refl
   actual_of_map o (Some x) = refl
 
   module _ (g : Argument Expression → Argument Built) (same : (a : Argument Expression) → g a ≡ record { formal = a.formal; value = w a.value }) where
-    argument_of_map : (number : ℕ) (name : List ℕ) (at : ℕ) (items : List (Argument Expression)) → argument_from number name at (map g items) ≡ option_map w (argument_from number name at items)
+    argument_of_map : (number : ℕ) (name : List ℕ) (at : ℕ) (items : List (Argument Expression))
+        → argument_from number name at (map g items) ≡ option_map w (argument_from number name at items)
     unfolding argument_from
     argument_of_map number name at [] = refl
     argument_of_map number name at (a ∷ rest) =
         rw (same a) (found (is_for number name at a.formal) a.value _ _ (argument_of_map number name (suc at) rest))
 
-    first_of_map : (names : List (List ℕ)) (items : List (Argument Expression)) → first_given (actuals_for names (map g items)) ≡ option_map w (first_given (actuals_for names items))
+    first_of_map : (names : List (List ℕ)) (items : List (Argument Expression))
+        → first_given (actuals_for names (map g items)) ≡ option_map w (first_given (actuals_for names items))
     unfolding actuals_for arguments_from
     first_of_map [] items = refl
     first_of_map (name ∷ names) items = argument_of_map 0 name 0 items
 
-    index_of_map : (items : List (Argument Expression)) → is_built_if_there same_built (first_argument (map g items)) n ≡ is_built_if_there w (first_argument items) n
+    index_of_map : (items : List (Argument Expression))
+        → is_built_if_there same_built (first_argument (map g items)) n ≡ is_built_if_there w (first_argument items) n
     index_of_map [] = refl
     index_of_map (a ∷ rest) = rw (same a) refl
 
@@ -84,11 +91,13 @@ module _ (w : Expression → Built) (n : Names) where
 
     denoted_of_map : (items : List (Argument Expression)) (d : Option Denoted) → denoted_built same_built (map g items) d n ≡ denoted_built w items d n
     denoted_of_map arguments None = refl
-    denoted_of_map arguments (Some (denotes.Entity e)) = ap (λ (b : Bool). unwrap_or (option_map (λ kind. entity_built kind b) (kind_at n e)) false) (index_of_map arguments)
+    denoted_of_map arguments (Some (denotes.Entity e)) =
+        ap (λ (b : Bool). unwrap_or (option_map (λ kind. entity_built kind b) (kind_at n e)) false) (index_of_map arguments)
     denoted_of_map arguments (Some (denotes.Unit u)) = refl
     denoted_of_map arguments (Some (denotes.Item u item)) = item_of_map item arguments
 
-    named_of_map : (name : Name) (a : Option AttributeDesignator) (items : List (Argument Expression)) → named_built same_built name a (map g items) n ≡ named_built w name a items n
+    named_of_map : (name : Name) (a : Option AttributeDesignator) (items : List (Argument Expression))
+        → named_built same_built name a (map g items) n ≡ named_built w name a items n
     named_of_map name None arguments = denoted_of_map arguments (denoted_by n name)
     named_of_map name (Some a) arguments = refl
 
@@ -96,19 +105,25 @@ module _ (w : Expression → Built) (n : Names) where
 
   form_of_map : (x : ExpressionForm Expression) → form_built same_built (map-Expression Expression Built w (record { form = x })).form n ≡ form_built w x n
   form_of_map (form.Logical operator first others) =
-      ap (λ (b : Bool). w first n && b) (operands_of_map (λ (o : Operand Expression). record { place = o.place; relation = w o.relation }) (λ o. refl) (others.first ∷ others.others))
+      ap (λ (b : Bool). w first n && b)
+      (operands_of_map (λ (o : Operand Expression). record { place = o.place; relation = w o.relation }) (λ o. refl) (others.first ∷ others.others))
   form_of_map (form.Relational left place operator right) = refl
   form_of_map (form.Adding first others) =
-      ap (λ (b : Bool). w first n && b) (addends_of_map (λ (a : Addend Expression). record { place = a.place; operator = a.operator; term = w a.term }) (λ a. refl) (others.first ∷ others.others))
+      ap (λ (b : Bool). w first n && b)
+      (addends_of_map (λ (a : Addend Expression). record { place = a.place; operator = a.operator; term = w a.term }) (λ a. refl)
+      (others.first ∷ others.others))
   form_of_map (form.Signed place s operand) = refl
   form_of_map (form.Multiplying first others) =
-      ap (λ (b : Bool). w first n && b) (factors_of_map (λ (m : Multiplied Expression). record { place = m.place; operator = m.operator; factor = w m.factor }) (λ m. refl) (others.first ∷ others.others))
+      ap (λ (b : Bool). w first n && b)
+      (factors_of_map (λ (m : Multiplied Expression). record { place = m.place; operator = m.operator; factor = w m.factor }) (λ m. refl)
+      (others.first ∷ others.others))
   form_of_map (form.Highest place operator operand) = refl
   form_of_map (form.Number place literal) = refl
   form_of_map (form.Text place text) = refl
   form_of_map (form.Null place) = refl
   form_of_map (form.Bracketed place inner) = refl
-  form_of_map (form.Named name a arguments) = named_of_map (λ (x : Argument Expression). record { formal = x.formal; value = w x.value }) (λ x. refl) name a arguments
+  form_of_map (form.Named name a arguments) =
+      named_of_map (λ (x : Argument Expression). record { formal = x.formal; value = w x.value }) (λ x. refl) name a arguments
 
 pub expression_by_form : (e : Expression) (n : Names) → expression_built e n ≡ form_built expression_built (out-Expression e).form n
 expression_by_form e n = ap (λ (b : Built). b n) (fold_out-Expression Built built_layer e) ∙ form_of_map expression_built n (out-Expression e).form

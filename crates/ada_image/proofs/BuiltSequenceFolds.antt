@@ -32,18 +32,22 @@ use Rattle.ada_regions.specs.declared.table.Names.{Names}
 use Rattle.ada_image.specs.ImageOfStatements.{guard_of}
 use Rattle.ada_image.specs.BuiltExpressions.{Built, expression_built}
 use Rattle.ada_image.specs.BuiltStatements.{value_if_there}
-use Rattle.ada_image.specs.BuiltSequences.{sequence_if_built, elsifs_built, alternatives_built, handlers_built, alternative_built, select_alternative_built, select_alternatives_built, statement_built, statements_built, operations_built, declaration_built, declarations_built, parts_built, same_sequence_built, sequence_built_layer, sequence_built}
+use Rattle.ada_image.specs.BuiltSequences.{sequence_if_built, elsifs_built, alternatives_built, handlers_built, alternative_built}
+use Rattle.ada_image.specs.BuiltSequences.{select_alternative_built, select_alternatives_built, statement_built, statements_built, operations_built}
+use Rattle.ada_image.specs.BuiltSequences.{declaration_built, declarations_built, parts_built, same_sequence_built, sequence_built_layer, sequence_built}
 
 module _ (f : Sequence → Built) (n : Names) where
   -- ---- if and case
 
-  module _ (m : Elsif Sequence → Elsif Built) (same : (e : Elsif Sequence) → m e ≡ record { place = e.place; condition = e.condition; statements = f e.statements }) where
+  module _ (m : Elsif Sequence → Elsif Built)
+      (same : (e : Elsif Sequence) → m e ≡ record { place = e.place; condition = e.condition; statements = f e.statements }) where
     elsifs_of_map : (es : List (Elsif Sequence)) → elsifs_built same_sequence_built (map m es) n ≡ elsifs_built f es n
     elsifs_of_map [] = refl
     elsifs_of_map (e ∷ es) = rw (same e, elsifs_of_map es) refl
 
   if_of_map : (i : If Sequence) (o : Option Sequence)
-      → statement_built same_sequence_built (mapped_statement f (statement.If (record i { otherwise = o }))) n ≡ statement_built f (statement.If (record i { otherwise = o })) n
+      → statement_built same_sequence_built (mapped_statement f (statement.If (record i { otherwise = o }))) n
+      ≡ statement_built f (statement.If (record i { otherwise = o })) n
   if_of_map i None =
       ap (λ (b : Bool). expression_built i.condition n && (f i.statements n && (b && sequence_if_built f None n)))
       (elsifs_of_map (λ (e : Elsif Sequence). record { place = e.place; condition = e.condition; statements = f e.statements }) (λ e. refl) i.elsifs)
@@ -51,7 +55,8 @@ module _ (f : Sequence → Built) (n : Names) where
       ap (λ (b : Bool). expression_built i.condition n && (f i.statements n && (b && sequence_if_built f (Some q) n)))
       (elsifs_of_map (λ (e : Elsif Sequence). record { place = e.place; condition = e.condition; statements = f e.statements }) (λ e. refl) i.elsifs)
 
-  module _ (m : CaseAlternative Sequence → CaseAlternative Built) (same : (a : CaseAlternative Sequence) → m a ≡ record { place = a.place; choices = a.choices; statements = f a.statements }) where
+  module _ (m : CaseAlternative Sequence → CaseAlternative Built)
+      (same : (a : CaseAlternative Sequence) → m a ≡ record { place = a.place; choices = a.choices; statements = f a.statements }) where
     alternatives_of_map : (rest : List (CaseAlternative Sequence)) → alternatives_built same_sequence_built (map m rest) n ≡ alternatives_built f rest n
     alternatives_of_map [] = refl
     alternatives_of_map (a ∷ rest) = rw (same a, alternatives_of_map rest) refl
@@ -59,24 +64,28 @@ module _ (f : Sequence → Built) (n : Names) where
   case_of_map : (c : Case Sequence) → statement_built same_sequence_built (mapped_statement f (statement.Case c)) n ≡ statement_built f (statement.Case c) n
   case_of_map c =
       ap (λ (b : Bool). expression_built c.selector n && b)
-      (alternatives_of_map (λ (a : CaseAlternative Sequence). record { place = a.place; choices = a.choices; statements = f a.statements }) (λ a. refl) (c.alternatives.first ∷ c.alternatives.others))
+      (alternatives_of_map (λ (a : CaseAlternative Sequence). record { place = a.place; choices = a.choices; statements = f a.statements }) (λ a. refl)
+      (c.alternatives.first ∷ c.alternatives.others))
 
   -- ---- handlers and accepts
 
-  module _ (m : Handler Sequence → Handler Built) (same : (h : Handler Sequence) → m h ≡ record { place = h.place; exceptions = h.exceptions; statements = f h.statements }) where
+  module _ (m : Handler Sequence → Handler Built)
+      (same : (h : Handler Sequence) → m h ≡ record { place = h.place; exceptions = h.exceptions; statements = f h.statements }) where
     handlers_of_map : (hs : List (Handler Sequence)) → handlers_built same_sequence_built (map m hs) n ≡ handlers_built f hs n
     handlers_of_map [] = refl
     handlers_of_map (h ∷ hs) = rw (same h, handlers_of_map hs) refl
 
   accept_of_map : (a : Accept Sequence) (body : Option (AcceptBody Sequence))
-      → statement_built same_sequence_built (mapped_statement f (statement.Accept (record a { body = body }))) n ≡ statement_built f (statement.Accept (record a { body = body })) n
+      → statement_built same_sequence_built (mapped_statement f (statement.Accept (record a { body = body }))) n
+      ≡ statement_built f (statement.Accept (record a { body = body })) n
   accept_of_map a None = refl
   accept_of_map a (Some body) = refl
 
   -- ---- selects
 
   accepting_of_map : (x : SelectAlternative Sequence) (accept : Accept Sequence) (behind : Option Sequence) (body : Option (AcceptBody Sequence))
-      → alternative_built same_sequence_built (mapped_alternative f (record x { alternative = alternative.Accept (record accept { body = body }) behind })).alternative n
+      → alternative_built same_sequence_built
+      (mapped_alternative f (record x { alternative = alternative.Accept (record accept { body = body }) behind })).alternative n
       ≡ alternative_built f (alternative.Accept (record accept { body = body }) behind) n
   accepting_of_map x accept None None = refl
   accepting_of_map x accept None (Some body) = refl
@@ -90,10 +99,12 @@ module _ (f : Sequence → Built) (n : Names) where
   alternative_of_map x (alternative.Delay delay (Some q)) = refl
   alternative_of_map x (alternative.Terminate place) = refl
 
-  select_alternatives_of_map : (xs : List (SelectAlternative Sequence)) → select_alternatives_built same_sequence_built (map (mapped_alternative f) xs) n ≡ select_alternatives_built f xs n
+  select_alternatives_of_map : (xs : List (SelectAlternative Sequence))
+      → select_alternatives_built same_sequence_built (map (mapped_alternative f) xs) n ≡ select_alternatives_built f xs n
   select_alternatives_of_map [] = refl
   select_alternatives_of_map (x ∷ xs) =
-      ap (λ (b : Bool). (value_if_there (guard_of x.guard) n && b) && select_alternatives_built same_sequence_built (map (mapped_alternative f) xs) n) (alternative_of_map x x.alternative)
+      ap (λ (b : Bool). (value_if_there (guard_of x.guard) n && b) && select_alternatives_built same_sequence_built (map (mapped_alternative f) xs) n)
+      (alternative_of_map x x.alternative)
       ∙ ap (λ (b : Bool). select_alternative_built f x n && b) (select_alternatives_of_map xs)
 
   abbrev selecting : Place → SelectForm Sequence → Statement Sequence
@@ -103,7 +114,8 @@ module _ (f : Sequence → Built) (n : Names) where
       → statement_built same_sequence_built (mapped_statement f (selecting place (select.SelectiveAccept (record s { otherwise = o })))) n
       ≡ statement_built f (selecting place (select.SelectiveAccept (record s { otherwise = o }))) n
   selective_of_map place s None = ap (λ (b : Bool). b && sequence_if_built f None n) (select_alternatives_of_map (s.alternatives.first ∷ s.alternatives.others))
-  selective_of_map place s (Some q) = ap (λ (b : Bool). b && sequence_if_built f (Some q) n) (select_alternatives_of_map (s.alternatives.first ∷ s.alternatives.others))
+  selective_of_map place s (Some q) =
+      ap (λ (b : Bool). b && sequence_if_built f (Some q) n) (select_alternatives_of_map (s.alternatives.first ∷ s.alternatives.others))
 
   timed_of_map : (place : Place) (t : TimedEntryCall Sequence) (o p : Option Sequence)
       → statement_built same_sequence_built (mapped_statement f (selecting place (select.TimedEntryCall (record t { statements = o; delay_statements = p })))) n
@@ -125,7 +137,8 @@ module _ (f : Sequence → Built) (n : Names) where
   asynchronous_of_map place s None = refl
   asynchronous_of_map place s (Some q) = refl
 
-  select_of_map : (place : Place) (form : SelectForm Sequence) → statement_built same_sequence_built (mapped_statement f (selecting place form)) n ≡ statement_built f (selecting place form) n
+  select_of_map : (place : Place) (form : SelectForm Sequence)
+      → statement_built same_sequence_built (mapped_statement f (selecting place form)) n ≡ statement_built f (selecting place form) n
   select_of_map place (select.SelectiveAccept s) = selective_of_map place s s.otherwise
   select_of_map place (select.TimedEntryCall t) = timed_of_map place t t.statements t.delay_statements
   select_of_map place (select.ConditionalEntryCall c) = conditional_of_map place c c.statements
@@ -153,7 +166,8 @@ module _ (f : Sequence → Built) (n : Names) where
   statements_of_map : (ss : List (Statement Sequence)) → statements_built same_sequence_built (map (mapped_statement f) ss) n ≡ statements_built f ss n
   statements_of_map [] = refl
   statements_of_map (s ∷ ss) =
-      ap (λ (b : Bool). b && statements_built same_sequence_built (map (mapped_statement f) ss) n) (statement_of_map s) ∙ ap (λ (b : Bool). statement_built f s n && b) (statements_of_map ss)
+      ap (λ (b : Bool). b && statements_built same_sequence_built (map (mapped_statement f) ss) n) (statement_of_map s)
+      ∙ ap (λ (b : Bool). statement_built f s n && b) (statements_of_map ss)
 
   -- ---- declarations and bodies
 
@@ -175,18 +189,23 @@ module _ (f : Sequence → Built) (n : Names) where
   declaration_of_map (declaration.ProtectedBody p) = operations_of_map p.operations
   declaration_of_map (declaration.Use place name) = refl
 
-  declarations_of_map : (ds : List (Declaration Sequence)) → declarations_built same_sequence_built (map (mapped_declaration f) ds) n ≡ declarations_built f ds n
+  declarations_of_map : (ds : List (Declaration Sequence))
+      → declarations_built same_sequence_built (map (mapped_declaration f) ds) n ≡ declarations_built f ds n
   declarations_of_map [] = refl
   declarations_of_map (d ∷ ds) =
-      ap (λ (b : Bool). b && declarations_built same_sequence_built (map (mapped_declaration f) ds) n) (declaration_of_map d) ∙ ap (λ (b : Bool). declaration_built f d n && b) (declarations_of_map ds)
+      ap (λ (b : Bool). b && declarations_built same_sequence_built (map (mapped_declaration f) ds) n) (declaration_of_map d)
+      ∙ ap (λ (b : Bool). declaration_built f d n && b) (declarations_of_map ds)
 
   -- ---- sequences
 
   parts_of_map : (s : SequenceParts Sequence) → parts_built same_sequence_built (mapped f s) n ≡ parts_built f s n
   parts_of_map s =
-      ap (λ (b : Bool). b && (statements_built same_sequence_built (map (mapped_statement f) (s.statements.first ∷ s.statements.others)) n && handlers_built same_sequence_built (mapped f s).handlers n))
+      ap (λ (b : Bool). b
+      && (statements_built same_sequence_built (map (mapped_statement f) (s.statements.first ∷ s.statements.others)) n
+      && handlers_built same_sequence_built (mapped f s).handlers n))
       (declarations_of_map s.declarations)
-      ∙ ap (λ (b : Bool). declarations_built f s.declarations n && (b && handlers_built same_sequence_built (mapped f s).handlers n)) (statements_of_map (s.statements.first ∷ s.statements.others))
+      ∙ ap (λ (b : Bool). declarations_built f s.declarations n && (b && handlers_built same_sequence_built (mapped f s).handlers n))
+      (statements_of_map (s.statements.first ∷ s.statements.others))
       ∙ ap (λ (b : Bool). declarations_built f s.declarations n && (statements_built f (s.statements.first ∷ s.statements.others) n && b))
       (handlers_of_map (λ (h : Handler Sequence). record { place = h.place; exceptions = h.exceptions; statements = f h.statements }) (λ h. refl) s.handlers)
 

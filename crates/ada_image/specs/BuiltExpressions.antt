@@ -1,6 +1,7 @@
 -- Expressions that an image has: forms that are values, and names in them that denote what has a value. A text, `null`,
 -- an Image, an Access and the call of a function of the source among operators are none; legality refuses them there.
-use Rattle.std.specs.Prelude.{Bool, true, false, cond, ◌&&◌, List, [], ◌∷◌, Option, Some, None, option_map, unwrap_or, is_some}
+use Rattle.std.specs.Prelude.{Bool, true, false, cond, ◌&&◌, List, [], ◌∷◌}
+use Rattle.std.specs.Prelude.{Option, Some, None, option_map, unwrap_or, is_some}
 use Rattle.std.specs.List.{list_all}
 use Rattle.ada_tree.specs.declared.names.Name.{Name}
 use Rattle.ada_tree.specs.declared.operators.Attribute.{Attribute}

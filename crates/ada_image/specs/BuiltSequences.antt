@@ -24,7 +24,8 @@ use Rattle.ada_tree.specs.declared.declarations.OperationBody.TheVariants as bod
 use Rattle.ada_image.specs.ImageOfCalls.{FunctionCall}
 use Rattle.ada_image.specs.ImageOfStatements.{guard_of}
 use Rattle.ada_image.specs.BuiltExpressions.{Built, expression_built}
-use Rattle.ada_image.specs.BuiltStatements.{value_if_there, call_in, call_built, call_statement_built, assignment_built, choices_built, iteration_built, trigger_built, source_if_there}
+use Rattle.ada_image.specs.BuiltStatements.{value_if_there, call_in, call_built, call_statement_built, assignment_built}
+use Rattle.ada_image.specs.BuiltStatements.{choices_built, iteration_built, trigger_built, source_if_there}
 
 -- ---- the initial value of an object, where it is the call of a function
 

@@ -42,7 +42,9 @@ use Rattle.ada_regions.specs.Statics.{subtype_of_name}
 use Rattle.ada_image.specs.declared.making.Within.{Within}
 use Rattle.ada_image.specs.Making.{Making, ◌>>=◌, pure, action_put}
 use Rattle.ada_image.specs.Layout.{is_thing, subtype_is}
-use Rattle.ada_image.specs.ImageOfExpressions.{expression_image, expression_made, no_declaration_no, object_before, named_before, thing_in, kind_named, variable_made, actuals_for, first_argument, no_value}
+use Rattle.ada_image.specs.ImageOfExpressions.{expression_image, expression_made, no_declaration_no}
+use Rattle.ada_image.specs.ImageOfExpressions.{object_before, named_before, thing_in, kind_named}
+use Rattle.ada_image.specs.ImageOfExpressions.{variable_made, actuals_for, first_argument, no_value}
 
 -- ---- variables that statements name: an object, or an element of an array
 

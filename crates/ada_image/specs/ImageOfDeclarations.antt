@@ -32,7 +32,8 @@ use Rattle.ada_regions.specs.Names.{kind_at, entity_denoted}
 use Rattle.ada_regions.specs.Statics.{subtype_of_kind}
 use Rattle.ada_regions.specs.TypeKinds.{is_task_type, is_controlled_type}
 use Rattle.ada_image.specs.declared.making.Within.{Within}
-use Rattle.ada_image.specs.Making.{Making, ◌>>=◌, ◌>>◌, pure, action_put, reserved, put_at, first_put, the_action, in_body_of, in_construct, in_unit}
+use Rattle.ada_image.specs.Making.{Making, ◌>>=◌, ◌>>◌, pure, action_put, reserved, put_at}
+use Rattle.ada_image.specs.Making.{first_put, the_action, in_body_of, in_construct, in_unit}
 use Rattle.ada_image.specs.Layout.{subtype_is, components_of_owner, total}
 use Rattle.ada_image.specs.ImageOfExpressions.{no_declaration_no, object_number, signs_if}
 use Rattle.ada_image.specs.ImageOfCalls.{FunctionCall, function_call, function_call_put}

@@ -1,5 +1,6 @@
 -- Names and expressions (clause 4): brackets leave no trace, and a minus before a literal is part of its value.
-use Rattle.std.specs.Prelude.{ℕ, suc, ◌+◌, ℤ, pos, Bool, true, false, cond, List, [], ◌∷◌, Option, Some, None, option_map, unwrap_or, eqb, map}
+use Rattle.std.specs.Prelude.{ℕ, suc, ◌+◌, ℤ, pos, Bool, true, false, cond, List, []}
+use Rattle.std.specs.Prelude.{◌∷◌, Option, Some, None, option_map, unwrap_or, eqb, map}
 use Rattle.std.specs.List.{list_any}
 use Rattle.std.specs.Str.{bytes_eq}
 use Rattle.ada_tree.specs.declared.names.Identifier.{Identifier}

@@ -30,7 +30,8 @@ use Rattle.ada_regions.specs.Names.{entity_denoted, kind_at}
 use Rattle.ada_image.specs.declared.making.Within.{Within}
 use Rattle.ada_image.specs.Making.{Making, ◌>>=◌, pure, action_put, first_given}
 use Rattle.ada_image.specs.TypesOfExpressions.{is_span}
-use Rattle.ada_image.specs.ImageOfExpressions.{expression_image, no_declaration_no, thing_in, kind_named, prefix_part, object_number, argument_from, actuals_for, optional_value}
+use Rattle.ada_image.specs.ImageOfExpressions.{expression_image, no_declaration_no, thing_in, kind_named, prefix_part}
+use Rattle.ada_image.specs.ImageOfExpressions.{object_number, argument_from, actuals_for, optional_value}
 use Rattle.ada_image.specs.ImageOfCalls.{no_variable, variable_in, value_or_none, put_line_put, not_built}
 
 abbrev pub second_of : List (Option Expression) → Option Expression

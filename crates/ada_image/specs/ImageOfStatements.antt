@@ -1,6 +1,7 @@
 -- Statements to actions (clauses 5, 6.5, 9.5.2, 9.6 to 9.8, 11.3): each leads to what comes next, and what stands
 -- inside a compound statement leads to what comes behind it.
-use Rattle.std.specs.Prelude.{ℕ, suc, ◌+◌, Bool, true, false, cond, List, [], ◌∷◌, Option, Some, None, option_map, unwrap_or, eqb, map, pos}
+use Rattle.std.specs.Prelude.{ℕ, suc, ◌+◌, Bool, true, false, cond, List, [], ◌∷◌}
+use Rattle.std.specs.Prelude.{Option, Some, None, option_map, unwrap_or, eqb, map, pos}
 use Rattle.std.specs.List.{find}
 use Rattle.ann_base.specs.declared.places.Place.{Place}
 use Rattle.ann_base.specs.declared.exceptions.Raised.{Raised}
@@ -84,9 +85,11 @@ use Rattle.ada_image.specs.declared.making.Within.{Within}
 use Rattle.ada_image.specs.declared.making.SequencePlace.{SequencePlace}
 use Rattle.ada_image.specs.declared.making.SequencePlace.TheVariants as sequence_place
 use Rattle.ada_image.specs.declared.making.OpenLoop.{OpenLoop}
-use Rattle.ada_image.specs.Making.{Making, ◌>>=◌, ◌>>◌, pure, action_put, reserved, put_at, first_put, the_action, in_loop, in_construct, in_scope, in_handler}
+use Rattle.ada_image.specs.Making.{Making, ◌>>=◌, ◌>>◌, pure, action_put, reserved, put_at, first_put}
+use Rattle.ada_image.specs.Making.{the_action, in_loop, in_construct, in_scope, in_handler}
 use Rattle.ada_image.specs.Layout.{is_kept, subtype_is, scope_no}
-use Rattle.ada_image.specs.ImageOfExpressions.{expression_made, signs_in, signs_if, no_declaration_no, object_named, thing_named, thing_in, expression_image, kind_named, optional_value}
+use Rattle.ada_image.specs.ImageOfExpressions.{expression_made, signs_in, signs_if, no_declaration_no, object_named}
+use Rattle.ada_image.specs.ImageOfExpressions.{thing_named, thing_in, expression_image, kind_named, optional_value}
 use Rattle.ada_image.specs.ImageOfCalls.{target_made, FunctionCall, function_call, function_call_put, owner_of_entry}
 use Rattle.ada_image.specs.CallStatements.{call_statement_put, signs_in_actuals}
 

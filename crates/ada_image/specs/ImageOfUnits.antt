@@ -1,6 +1,7 @@
 -- The image of a source (7.1, 7.2, 10.1, 10.2): the library packages are elaborated one after another, then the main
 -- procedure is called; and at last the initial values of declarations.
-use Rattle.std.specs.Prelude.{ℕ, suc, Bool, true, false, cond, not, ◌||◌, List, [], ◌∷◌, ◌++◌, Option, Some, None, unwrap_or, map, is_some, ◌&&◌}
+use Rattle.std.specs.Prelude.{ℕ, suc, Bool, true, false, cond, not, ◌||◌, List, [], ◌∷◌}
+use Rattle.std.specs.Prelude.{◌++◌, Option, Some, None, unwrap_or, map, is_some, ◌&&◌}
 use Rattle.std.specs.Bool.{then_some}
 use Rattle.std.specs.List.{list_any}
 use Rattle.std.specs.Str.{bytes_eq}
@@ -39,14 +40,17 @@ use Rattle.ada_image.specs.declared.making.Lists.{Lists}
 use Rattle.ada_image.specs.declared.making.Within.{Within}
 use Rattle.ada_image.specs.declared.making.MadeLists.{MadeLists}
 use Rattle.ada_image.specs.Making.{Making, ◌>>=◌, ◌>>◌, pure, action_put, first_put, nothing_made}
-use Rattle.ada_image.specs.Layout.{is_thing, subtype_is, range_of_cells, index_range, cells_of_declaration, place_behind, scope_no, scopes_made, subprogram_made, enumeration_made}
-use Rattle.ada_image.specs.UnitsOfImage.{decl_no, priority_of, task_units_made, entries_made, protected_units_made, controlled_types_made}
+use Rattle.ada_image.specs.Layout.{is_thing, subtype_is, range_of_cells, index_range, cells_of_declaration}
+use Rattle.ada_image.specs.Layout.{place_behind, scope_no, scopes_made, subprogram_made, enumeration_made}
+use Rattle.ada_image.specs.UnitsOfImage.{decl_no, priority_of, task_units_made, entries_made}
+use Rattle.ada_image.specs.UnitsOfImage.{protected_units_made, controlled_types_made}
 use Rattle.ada_image.specs.PoliciesOfImage.{policies_of}
 use Rattle.ada_image.specs.ImageOfExpressions.{expression_made, expression_image}
 use Rattle.ada_image.specs.ImageOfCalls.{function_call}
 use Rattle.ada_image.specs.declared.making.SequencePlace.TheVariants as sequence_place
 use Rattle.ada_image.specs.ImageOfStatements.{array_name, scope_at}
-use Rattle.ada_image.specs.ImageOfDeclarations.{sequence_put, inner_bodies_put, declarations_put, make_tasks, activation_put, body_put}
+use Rattle.ada_image.specs.ImageOfDeclarations.{sequence_put, inner_bodies_put, declarations_put}
+use Rattle.ada_image.specs.ImageOfDeclarations.{make_tasks, activation_put, body_put}
 
 -- ---- library packages: each has a number, the same for its declaration and its body, from 1 on
 

@@ -1,5 +1,6 @@
 -- Declarations and scopes of the image: the cells that each takes (own), where they stand, and what they hold at first.
-use Rattle.std.specs.Prelude.{ℕ, zero, suc, ◌+◌, ◌-◌, ℤ, pos, ◌-ℤ◌, nat_abs, int_lt, Bool, true, false, cond, ◌&&◌, List, [], ◌∷◌, ◌++◌, Option, Some, None, eqb, slice_get, option_map, map, unwrap_or}
+use Rattle.std.specs.Prelude.{ℕ, zero, suc, ◌+◌, ◌-◌, ℤ, pos, ◌-ℤ◌, nat_abs, int_lt, Bool, true, false, cond, ◌&&◌}
+use Rattle.std.specs.Prelude.{List, [], ◌∷◌, ◌++◌, Option, Some, None, eqb, slice_get, option_map, map, unwrap_or}
 use Rattle.std.specs.List.{filter, list_any, find}
 use Rattle.std.specs.Char.{to_ascii_uppercase}
 use Rattle.profile_image.specs.declared.limits.TheConstants.{CONTROLLED_CELLS, PROTECTED_CELLS}

@@ -1,7 +1,8 @@
 -- Nothing is lost: the actions of each scope, read by `first` and `next`, are the declarations and statements of its
 -- text in order, each of its kind and with its parts; those of the environment are the packages, and then the call of
 -- the main procedure. This is said of the image alone, however it was made.
-use Rattle.std.specs.Prelude.{ℕ, zero, suc, length, Bool, true, false, cond, not, ◌&&◌, List, [], ◌∷◌, ◌++◌, Option, Some, None, unwrap_or, eqb}
+use Rattle.std.specs.Prelude.{ℕ, zero, suc, length, Bool, true, false, cond, not, ◌&&◌}
+use Rattle.std.specs.Prelude.{List, [], ◌∷◌, ◌++◌, Option, Some, None, unwrap_or, eqb}
 use Rattle.std.specs.List.{list_all}
 use Rattle.std.specs.Option.{option_flatten}
 use Rattle.std.specs.Bool.{then_some}
@@ -42,10 +43,12 @@ use Rattle.ada_image.specs.ImageOfCalls.{FunctionCall}
 use Rattle.ada_image.specs.declared.making.SequencePlace.{SequencePlace}
 use Rattle.ada_image.specs.declared.making.SequencePlace.TheVariants as sequence_place
 use Rattle.ada_image.specs.ImageOfStatements.{scope_at}
-use Rattle.ada_image.specs.ImageOfDeclarations.{number_declared, subtype_declared_as, subprogram_declared_as, function_call_if, make_tasks}
+use Rattle.ada_image.specs.ImageOfDeclarations.{number_declared, subtype_declared_as}
+use Rattle.ada_image.specs.ImageOfDeclarations.{subprogram_declared_as, function_call_if, make_tasks}
 use Rattle.ada_image.specs.ImageOfUnits.{outermost, program_of, has_body, part_of, package_part}
 use Rattle.ada_image.specs.ReadExpressions.{same_decl}
-use Rattle.ada_image.specs.ReadStatements.{Reading, same_next, call_stands, is_declared, first_of_scope, is_call_of_main, statements_stand, handlers_stand}
+use Rattle.ada_image.specs.ReadStatements.{Reading, same_next, call_stands, is_declared, first_of_scope}
+use Rattle.ada_image.specs.ReadStatements.{is_call_of_main, statements_stand, handlers_stand}
 
 -- what is left behind some actions that stand; nothing where one does not
 abbrev pub Rest : Type 0

@@ -1,6 +1,7 @@
 -- Reading an image back: whether what stands at a number of its expressions is an expression of the text, with the same
 -- operators, operands and names (clause 4).
-use Rattle.std.specs.Prelude.{ℕ, pos, Bool, true, false, cond, ◌&&◌, List, [], ◌∷◌, Option, Some, None, option_map, unwrap_or, eqb}
+use Rattle.std.specs.Prelude.{ℕ, pos, Bool, true, false, cond, ◌&&◌, List, []}
+use Rattle.std.specs.Prelude.{◌∷◌, Option, Some, None, option_map, unwrap_or, eqb}
 use Rattle.ada_tree.specs.declared.names.Name.{Name}
 use Rattle.ada_tree.specs.declared.operators.Sign.{Sign}
 use Rattle.ada_tree.specs.declared.operators.Sign.TheVariants as sign
@@ -47,7 +48,9 @@ use Rattle.ada_regions.specs.Names.{denoted_by, kind_at}
 use Rattle.ada_regions.specs.Statics.{literal_value, negated, attribute_value}
 use Rattle.ada_image.specs.declared.making.Within.{Within}
 use Rattle.ada_image.specs.Layout.{is_thing, subtype_is}
-use Rattle.ada_image.specs.ImageOfExpressions.{logical_operator, relational_operator, adding_operator, multiplying_operator, highest_operator, object_named, thing_named, thing_in, kind_named, actuals_for, first_argument}
+use Rattle.ada_image.specs.ImageOfExpressions.{logical_operator, relational_operator, adding_operator}
+use Rattle.ada_image.specs.ImageOfExpressions.{multiplying_operator, highest_operator, object_named}
+use Rattle.ada_image.specs.ImageOfExpressions.{thing_named, thing_in, kind_named, actuals_for, first_argument}
 
 -- ---- the same thing
 

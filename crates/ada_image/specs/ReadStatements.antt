@@ -1,6 +1,7 @@
 -- Reading an image back: whether the actions that follow one another from a place on are statements of the text, in its
 -- order, each of its kind and with its parts (clauses 5, 6, 9, 11).
-use Rattle.std.specs.Prelude.{ℕ, ◌+◌, Bool, true, false, cond, not, ◌&&◌, List, [], ◌∷◌, Option, Some, None, option_map, unwrap_or, eqb, is_none, map}
+use Rattle.std.specs.Prelude.{ℕ, ◌+◌, Bool, true, false, cond, not, ◌&&◌, List, [], ◌∷◌}
+use Rattle.std.specs.Prelude.{Option, Some, None, option_map, unwrap_or, eqb, is_none, map}
 use Rattle.std.specs.Str.{bytes_eq}
 use Rattle.ann_base.specs.declared.exceptions.Raised.{Raised}
 use Rattle.ann_base.specs.declared.exceptions.Raised.TheVariants as raised
@@ -90,12 +91,15 @@ use Rattle.ada_regions.specs.TypeKinds.{is_array_type}
 use Rattle.ada_image.specs.declared.making.Within.{Within}
 use Rattle.ada_image.specs.Making.{in_construct, in_handler, in_loop, in_scope, first_given}
 use Rattle.ada_image.specs.Layout.{is_kept, is_thing, subtype_is, scope_no}
-use Rattle.ada_image.specs.ImageOfExpressions.{object_named, thing_named, thing_in, expression_image, first_argument, actuals_for, no_declaration_no}
+use Rattle.ada_image.specs.ImageOfExpressions.{object_named, thing_named, thing_in, expression_image}
+use Rattle.ada_image.specs.ImageOfExpressions.{first_argument, actuals_for, no_declaration_no}
 use Rattle.ada_image.specs.ImageOfCalls.{FunctionCall, function_call, callee_of, owner_of_entry, names_of, image_piece}
 use Rattle.ada_image.specs.ImageOfProcedures.{second_of, third_of, thing_of, handler_of, is_in_time, moment_of}
 use Rattle.ada_image.specs.declared.making.SequencePlace.{SequencePlace}
 use Rattle.ada_image.specs.declared.making.SequencePlace.TheVariants as sequence_place
-use Rattle.ada_image.specs.ImageOfStatements.{scope_at, array_name, exception_named, loop_left, loop_statement, choices_made, handled_made, loop_parameter_number, entry_at, unit_of_entry, guard_of, no_function}
+use Rattle.ada_image.specs.ImageOfStatements.{scope_at, array_name, exception_named, loop_left, loop_statement}
+use Rattle.ada_image.specs.ImageOfStatements.{choices_made, handled_made, loop_parameter_number, entry_at}
+use Rattle.ada_image.specs.ImageOfStatements.{unit_of_entry, guard_of, no_function}
 use Rattle.ada_image.specs.ReadExpressions.{same_decl, same_object, is_value, expression_stands, is_variable}
 
 -- ---- the same thing

@@ -1,6 +1,7 @@
 -- The type of an expression (clause 4), from its parts alone: no name is overloaded. Set_Handler asks for it, since a
 -- span and a moment mean different things there (D.14.1, D.15).
-use Rattle.std.specs.Prelude.{Bool, true, false, cond, List, [], ◌∷◌, Option, Some, None, option_map, unwrap_or, slice_get, not}
+use Rattle.std.specs.Prelude.{Bool, true, false, cond, List, [], ◌∷◌, Option}
+use Rattle.std.specs.Prelude.{Some, None, option_map, unwrap_or, slice_get, not}
 use Rattle.ada_tree.specs.declared.names.Name.{Name}
 use Rattle.ada_tree.specs.declared.operators.AddingOperator.{AddingOperator}
 use Rattle.ada_tree.specs.declared.operators.AddingOperator.TheVariants as adding

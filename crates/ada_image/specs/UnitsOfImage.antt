@@ -1,5 +1,6 @@
 -- Task and protected units, entries and controlled types (7.6, 9.1, 9.4, 9.5.2, C.3.1, D.1, D.3).
-use Rattle.std.specs.Prelude.{ℕ, suc, pos, Bool, true, false, cond, ◌&&◌, List, [], ◌∷◌, ◌++◌, Option, Some, None, unwrap_or, map, eqb, leb, codes, is_none}
+use Rattle.std.specs.Prelude.{ℕ, suc, pos, Bool, true, false, cond, ◌&&◌, List, [], ◌∷◌, ◌++◌}
+use Rattle.std.specs.Prelude.{Option, Some, None, unwrap_or, map, eqb, leb, codes, is_none}
 use Rattle.std.specs.Str.{bytes_eq}
 use Rattle.ada_tree.specs.declared.expressions.Expression.{Expression}
 use Rattle.ada_tree.specs.declared.declarations.Aspect.{Aspect}

@@ -1,5 +1,6 @@
-//! The program that the machine runs, made of the tree of a source and the table of its names: the plain data of what is
-//! being made, the types of predefined functions, and, in `specs/`, the definitions of what is made of each form of the text.
+//! The program that the machine runs, made of the tree of a source and the table of its names: the
+//! plain data of what is being made, the types of predefined functions, and, in `specs/`, the
+//! definitions of what is made of each form of the text.
 #![tactic(auto)]
 
 mod making;

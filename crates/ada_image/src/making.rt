@@ -17,7 +17,8 @@ pub struct FirstAction {
     pub action: Option<StatementNo>,
 }
 
-/// What has been made so far. An expression and a statement are named by their numbers here, from 0.
+/// What has been made so far. An expression and a statement are named by their numbers here, from
+/// 0.
 pub struct Lists {
     /// The expressions (clause 4).
     pub expressions: ImageList<Expression>,
@@ -123,7 +124,8 @@ impl<'n, T> ListOf<'n, T> {
     }
 }
 
-/// Where a statement or an expression stands. Its lists are lent, so that a place inside another takes no memory.
+/// Where a statement or an expression stands. Its lists are lent, so that a place inside another
+/// takes no memory.
 #[derive(Drop)]
 pub struct Within<'n, 't> {
     /// What names denote.
@@ -147,7 +149,8 @@ pub struct Within<'n, 't> {
 pub enum SequencePlace {
     /// The statements of a compound statement (clause 5).
     StatementsAlone,
-    /// Statements and handlers behind declarations whose tasks they activate, if any, by the number of their part (9.2).
+    /// Statements and handlers behind declarations whose tasks they activate, if any, by the number
+    /// of their part (9.2).
     BehindDeclarations(Option<u32>),
     /// All of a body or a block (3.11); a task's has the end of its activation.
     AsBody(bool),

@@ -193,7 +193,8 @@ impl<Q: LabelledSequence> TellLabels for SelectForm<Q> {
     }
 }
 
-/// A statement: its own label, and those of the statements inside that are in no block of their own.
+/// A statement: its own label, and those of the statements inside that are in no block of their
+/// own.
 impl<Q: LabelledSequence> TellLabels for Statement<Q> {
     ghost use Rattle.ada_regions.specs.NamesInStatements.{labels_in_statement};
 

@@ -6,7 +6,8 @@ pub both : {Z : Type 0} {a b c d : List Z} → a ≡ c → b ≡ d → a ++ b �
 both p q = rw (p, q) refl
 
 -- each item of a list that was mapped
-pub flat_of_map : {X Y Z : Type 0} (w : Y → List Z) (g : X → Y) (v : X → List Z) (same : (x : X) → w (g x) ≡ v x) (xs : List X) → flat_map w (map g xs) ≡ flat_map v xs
+pub flat_of_map : {X Y Z : Type 0} (w : Y → List Z) (g : X → Y) (v : X → List Z) (same : (x : X) → w (g x) ≡ v x) (xs : List X)
+    → flat_map w (map g xs) ≡ flat_map v xs
 flat_of_map w g v same [] = refl
 flat_of_map w g v same (x ∷ xs) = rw (same x, flat_of_map w g v same xs) refl
 

@@ -34,7 +34,9 @@ use Rattle.ada_legality.specs.Declarations.{Sight, same_findings}
 use Rattle.ada_legality.specs.Findings.{Found, broken_if}
 use Rattle.ada_legality.specs.ReadExpressions.{read_expression}
 use Rattle.ada_legality.specs.SimpleStatements.{alternative_part, selective_accept_judged}
-use Rattle.ada_legality.specs.Statements.{accept_found, asynchronous_select_found, case_alternative_found, case_found, choices_of_case, conditional_call_found, elsif_found, if_found, loop_found, select_alternative_found, select_found, selective_accept_found, statement_found, timed_call_found}
+use Rattle.ada_legality.specs.Statements.{accept_found, asynchronous_select_found, case_alternative_found, case_found, choices_of_case}
+use Rattle.ada_legality.specs.Statements.{conditional_call_found, elsif_found, if_found, loop_found, select_alternative_found}
+use Rattle.ada_legality.specs.Statements.{select_found, selective_accept_found, statement_found, timed_call_found}
 use Rattle.ada_legality.specs.declared.parts.AlternativePart.{AlternativePart}
 use Rattle.ada_legality.specs.declared.rules.Rule.TheVariants as rule
 use Rattle.ada_legality.specs.declared.standing.Known.{Known}
@@ -46,11 +48,13 @@ module _ (f : Sequence → Sight) where
   abbrev elsif_with : Elsif Sequence → Elsif Sight
   elsif_with x = record { place = x.place; condition = x.condition; statements = f x.statements }
 
-  elsifs_of_map : (es : List (Elsif Sequence)) (k : Known) → flat_map (λ (x : Elsif Sight). elsif_found same_findings x k) (map elsif_with es) ≡ flat_map (λ (x : Elsif Sequence). elsif_found f x k) es
+  elsifs_of_map : (es : List (Elsif Sequence)) (k : Known)
+      → flat_map (λ (x : Elsif Sight). elsif_found same_findings x k) (map elsif_with es) ≡ flat_map (λ (x : Elsif Sequence). elsif_found f x k) es
   elsifs_of_map es k = flat_of_map (λ (x : Elsif Sight). elsif_found same_findings x k) elsif_with (λ (x : Elsif Sequence). elsif_found f x k) (λ x. refl) es
 
   if_of_map : (i : If Sequence) (o : Option Sequence) (k : Known)
-      → statement_found same_findings (mapped_statement f (statement.If (record i { otherwise = o }))) k ≡ statement_found f (statement.If (record i { otherwise = o })) k
+      → statement_found same_findings (mapped_statement f (statement.If (record i { otherwise = o }))) k
+      ≡ statement_found f (statement.If (record i { otherwise = o })) k
   unfolding if_found
   if_of_map i None k = ap (λ (ws : Found). condition_found i.condition k ++ (f i.statements k ++ (ws ++ []))) (elsifs_of_map i.elsifs k)
   if_of_map i (Some q) k = ap (λ (ws : Found). condition_found i.condition k ++ (f i.statements k ++ (ws ++ f q k))) (elsifs_of_map i.elsifs k)
@@ -60,11 +64,17 @@ module _ (f : Sequence → Sight) where
   abbrev alternative_with : CaseAlternative Sequence → CaseAlternative Sight
   alternative_with x = record { place = x.place; choices = x.choices; statements = f x.statements }
 
-  choices_of_map : (xs : List (CaseAlternative Sequence)) → flat_map (λ (a : CaseAlternative Sight). all_of a.choices) (map alternative_with xs) ≡ flat_map (λ (a : CaseAlternative Sequence). all_of a.choices) xs
-  choices_of_map xs = flat_of_map (λ (a : CaseAlternative Sight). all_of a.choices) alternative_with (λ (a : CaseAlternative Sequence). all_of a.choices) (λ x. refl) xs
+  choices_of_map : (xs : List (CaseAlternative Sequence))
+      → flat_map (λ (a : CaseAlternative Sight). all_of a.choices) (map alternative_with xs) ≡ flat_map (λ (a : CaseAlternative Sequence). all_of a.choices) xs
+  choices_of_map xs =
+      flat_of_map (λ (a : CaseAlternative Sight). all_of a.choices) alternative_with (λ (a : CaseAlternative Sequence). all_of a.choices) (λ x. refl) xs
 
-  statements_of_case : (xs : List (CaseAlternative Sequence)) (k : Known) → flat_map (λ (a : CaseAlternative Sight). case_alternative_found same_findings a k) (map alternative_with xs) ≡ flat_map (λ (a : CaseAlternative Sequence). case_alternative_found f a k) xs
-  statements_of_case xs k = flat_of_map (λ (a : CaseAlternative Sight). case_alternative_found same_findings a k) alternative_with (λ (a : CaseAlternative Sequence). case_alternative_found f a k) (λ x. refl) xs
+  statements_of_case : (xs : List (CaseAlternative Sequence)) (k : Known)
+      → flat_map (λ (a : CaseAlternative Sight). case_alternative_found same_findings a k) (map alternative_with xs)
+      ≡ flat_map (λ (a : CaseAlternative Sequence). case_alternative_found f a k) xs
+  statements_of_case xs k =
+      flat_of_map (λ (a : CaseAlternative Sight). case_alternative_found same_findings a k) alternative_with
+      (λ (a : CaseAlternative Sequence). case_alternative_found f a k) (λ x. refl) xs
 
   -- a case with these choices, in the alternatives of which this is found
   abbrev case_with : Case Sequence → Known → List Choice → Found → Found
@@ -77,13 +87,17 @@ module _ (f : Sequence → Sight) where
       → statement_found same_findings (mapped_statement f (statement.Case c)) k ≡ statement_found f (statement.Case c) k
   unfolding case_found choices_of_case
   case_of_map c k =
-      ap (λ (cs : List Choice). case_with c k cs (flat_map (λ (a : CaseAlternative Sight). case_alternative_found same_findings a k) (map alternative_with (all_of c.alternatives)))) (choices_of_map (all_of c.alternatives))
-      ∙ ap (λ (ws : Found). case_with c k (flat_map (λ (a : CaseAlternative Sequence). all_of a.choices) (all_of c.alternatives)) ws) (statements_of_case (all_of c.alternatives) k)
+      ap (λ (cs : List Choice).
+      case_with c k cs (flat_map (λ (a : CaseAlternative Sight). case_alternative_found same_findings a k) (map alternative_with (all_of c.alternatives))))
+      (choices_of_map (all_of c.alternatives))
+      ∙ ap (λ (ws : Found). case_with c k (flat_map (λ (a : CaseAlternative Sequence). all_of a.choices) (all_of c.alternatives)) ws)
+      (statements_of_case (all_of c.alternatives) k)
 
   -- ---- loops
 
   loop_of_map : (i : Loop Sequence) (how : Iteration) (k : Known)
-      → statement_found same_findings (mapped_statement f (statement.Loop (record i { iteration = how }))) k ≡ statement_found f (statement.Loop (record i { iteration = how })) k
+      → statement_found same_findings (mapped_statement f (statement.Loop (record i { iteration = how }))) k
+      ≡ statement_found f (statement.Loop (record i { iteration = how })) k
   unfolding loop_found
   loop_of_map i iteration.Forever k = refl
   loop_of_map i (iteration.While place condition) k = refl
@@ -92,14 +106,16 @@ module _ (f : Sequence → Sight) where
   -- ---- accept statements
 
   accept_of_map : (a : Accept Sequence) (body : Option (AcceptBody Sequence)) (k : Known)
-      → statement_found same_findings (mapped_statement f (statement.Accept (record a { body = body }))) k ≡ statement_found f (statement.Accept (record a { body = body })) k
+      → statement_found same_findings (mapped_statement f (statement.Accept (record a { body = body }))) k
+      ≡ statement_found f (statement.Accept (record a { body = body })) k
   unfolding accept_found
   accept_of_map a None k = refl
   accept_of_map a (Some body) k = refl
 
   -- ---- selective accepts
 
-  accept_alternative_of_map : (x : SelectAlternative Sequence) (accept : Accept Sequence) (behind : Option Sequence) (body : Option (AcceptBody Sequence)) (k : Known)
+  accept_alternative_of_map : (x : SelectAlternative Sequence) (accept : Accept Sequence) (behind : Option Sequence) (body : Option (AcceptBody Sequence))
+      (k : Known)
       → select_alternative_found same_findings (mapped_alternative f (record x { alternative = alternative.Accept (record accept { body = body }) behind })) k
       ≡ select_alternative_found f (record x { alternative = alternative.Accept (record accept { body = body }) behind }) k
   unfolding accept_found
@@ -109,19 +125,23 @@ module _ (f : Sequence → Sight) where
   accept_alternative_of_map x accept (Some q) (Some body) k = refl
 
   alternative_of_map : (x : SelectAlternative Sequence) (a : Alternative Sequence) (k : Known)
-      → select_alternative_found same_findings (mapped_alternative f (record x { alternative = a })) k ≡ select_alternative_found f (record x { alternative = a }) k
+      → select_alternative_found same_findings (mapped_alternative f (record x { alternative = a })) k
+      ≡ select_alternative_found f (record x { alternative = a }) k
   alternative_of_map x (alternative.Accept accept statements) k = accept_alternative_of_map x accept statements accept.body k
   alternative_of_map x (alternative.Delay delay None) k = refl
   alternative_of_map x (alternative.Delay delay (Some statements)) k = refl
   alternative_of_map x (alternative.Terminate place) k = refl
 
   alternatives_of_map : (xs : List (SelectAlternative Sequence)) (k : Known)
-      → flat_map (λ (x : SelectAlternative Sight). select_alternative_found same_findings x k) (map (mapped_alternative f) xs) ≡ flat_map (λ (x : SelectAlternative Sequence). select_alternative_found f x k) xs
+      → flat_map (λ (x : SelectAlternative Sight). select_alternative_found same_findings x k) (map (mapped_alternative f) xs)
+      ≡ flat_map (λ (x : SelectAlternative Sequence). select_alternative_found f x k) xs
   alternatives_of_map xs k =
-      flat_of_map (λ (x : SelectAlternative Sight). select_alternative_found same_findings x k) (mapped_alternative f) (λ (x : SelectAlternative Sequence). select_alternative_found f x k)
+      flat_of_map (λ (x : SelectAlternative Sight). select_alternative_found same_findings x k) (mapped_alternative f)
+      (λ (x : SelectAlternative Sequence). select_alternative_found f x k)
       (λ x. alternative_of_map x x.alternative k) xs
 
-  part_of_map : (x : SelectAlternative Sequence) (a : Alternative Sequence) → alternative_part (mapped_alternative f (record x { alternative = a })) ≡ alternative_part (record x { alternative = a })
+  part_of_map : (x : SelectAlternative Sequence) (a : Alternative Sequence)
+      → alternative_part (mapped_alternative f (record x { alternative = a })) ≡ alternative_part (record x { alternative = a })
   part_of_map x (alternative.Accept accept None) = refl
   part_of_map x (alternative.Accept accept (Some statements)) = refl
   part_of_map x (alternative.Delay delay None) = refl
@@ -138,22 +158,27 @@ module _ (f : Sequence → Sight) where
       ++ (selective_accept_judged k place parts has_else ++ (inner ++ last))
 
   selective_of_map : (place : Place) (s : SelectiveAccept Sequence) (o : Option Sequence) (k : Known)
-      → statement_found same_findings (mapped_statement f (statement.Select (record { place = place; form = select.SelectiveAccept (record s { otherwise = o }) }))) k
+      → statement_found same_findings
+      (mapped_statement f (statement.Select (record { place = place; form = select.SelectiveAccept (record s { otherwise = o }) }))) k
       ≡ statement_found f (statement.Select (record { place = place; form = select.SelectiveAccept (record s { otherwise = o }) })) k
   unfolding select_found selective_accept_found
   selective_of_map place s None k =
-      ap (λ (ps : List AlternativePart). selective_with k place false ps (flat_map (λ (x : SelectAlternative Sight). select_alternative_found same_findings x k) (map (mapped_alternative f) (all_of s.alternatives))) [])
+      ap (λ (ps : List AlternativePart). selective_with k place false ps
+      (flat_map (λ (x : SelectAlternative Sight). select_alternative_found same_findings x k) (map (mapped_alternative f) (all_of s.alternatives))) [])
       (parts_of_map (all_of s.alternatives))
       ∙ ap (λ (ws : Found). selective_with k place false (map alternative_part (all_of s.alternatives)) ws []) (alternatives_of_map (all_of s.alternatives) k)
   selective_of_map place s (Some q) k =
-      ap (λ (ps : List AlternativePart). selective_with k place true ps (flat_map (λ (x : SelectAlternative Sight). select_alternative_found same_findings x k) (map (mapped_alternative f) (all_of s.alternatives))) (f q k))
+      ap (λ (ps : List AlternativePart). selective_with k place true ps
+      (flat_map (λ (x : SelectAlternative Sight). select_alternative_found same_findings x k) (map (mapped_alternative f) (all_of s.alternatives))) (f q k))
       (parts_of_map (all_of s.alternatives))
-      ∙ ap (λ (ws : Found). selective_with k place true (map alternative_part (all_of s.alternatives)) ws (f q k)) (alternatives_of_map (all_of s.alternatives) k)
+      ∙ ap (λ (ws : Found). selective_with k place true (map alternative_part (all_of s.alternatives)) ws (f q k))
+      (alternatives_of_map (all_of s.alternatives) k)
 
   -- ---- other selects
 
   timed_of_map : (place : Place) (t : TimedEntryCall Sequence) (o p : Option Sequence) (k : Known)
-      → statement_found same_findings (mapped_statement f (statement.Select (record { place = place; form = select.TimedEntryCall (record t { statements = o; delay_statements = p }) }))) k
+      → statement_found same_findings
+      (mapped_statement f (statement.Select (record { place = place; form = select.TimedEntryCall (record t { statements = o; delay_statements = p }) }))) k
       ≡ statement_found f (statement.Select (record { place = place; form = select.TimedEntryCall (record t { statements = o; delay_statements = p }) })) k
   unfolding select_found timed_call_found
   timed_of_map place t None None k = refl
@@ -162,14 +187,16 @@ module _ (f : Sequence → Sight) where
   timed_of_map place t (Some q) (Some r) k = refl
 
   conditional_of_map : (place : Place) (c : ConditionalEntryCall Sequence) (o : Option Sequence) (k : Known)
-      → statement_found same_findings (mapped_statement f (statement.Select (record { place = place; form = select.ConditionalEntryCall (record c { statements = o }) }))) k
+      → statement_found same_findings
+      (mapped_statement f (statement.Select (record { place = place; form = select.ConditionalEntryCall (record c { statements = o }) }))) k
       ≡ statement_found f (statement.Select (record { place = place; form = select.ConditionalEntryCall (record c { statements = o }) })) k
   unfolding select_found conditional_call_found
   conditional_of_map place c None k = refl
   conditional_of_map place c (Some q) k = refl
 
   asynchronous_of_map : (place : Place) (s : AsynchronousSelect Sequence) (what : Trigger) (o : Option Sequence) (k : Known)
-      → statement_found same_findings (mapped_statement f (statement.Select (record { place = place; form = select.AsynchronousSelect (record s { trigger = what; statements = o }) }))) k
+      → statement_found same_findings
+      (mapped_statement f (statement.Select (record { place = place; form = select.AsynchronousSelect (record s { trigger = what; statements = o }) }))) k
       ≡ statement_found f (statement.Select (record { place = place; form = select.AsynchronousSelect (record s { trigger = what; statements = o }) })) k
   unfolding select_found asynchronous_select_found
   asynchronous_of_map place s (trigger.Call c) None k = refl
@@ -178,7 +205,8 @@ module _ (f : Sequence → Sight) where
   asynchronous_of_map place s (trigger.Delay d) (Some q) k = refl
 
   select_of_map : (place : Place) (form : SelectForm Sequence) (k : Known)
-      → statement_found same_findings (mapped_statement f (statement.Select (record { place = place; form = form }))) k ≡ statement_found f (statement.Select (record { place = place; form = form })) k
+      → statement_found same_findings (mapped_statement f (statement.Select (record { place = place; form = form }))) k
+      ≡ statement_found f (statement.Select (record { place = place; form = form })) k
   select_of_map place (select.SelectiveAccept s) k = selective_of_map place s s.otherwise k
   select_of_map place (select.TimedEntryCall t) k = timed_of_map place t t.statements t.delay_statements k
   select_of_map place (select.ConditionalEntryCall c) k = conditional_of_map place c c.statements k

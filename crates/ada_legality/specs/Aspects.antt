@@ -21,7 +21,8 @@ use Rattle.ada_tree.specs.declared.expressions.Expression.{Expression}
 use Rattle.ada_tree.specs.declared.names.Identifier.{Identifier}
 use Rattle.ann_base.specs.declared.places.Place.{Place}
 use Rattle.std.specs.List.{list_any}
-use Rattle.std.specs.Prelude.{Bool, List, None, Option, Some, [], codes, cond, eqb, false, find, not, option_map, pos, suc, take, true, unwrap_or, ℕ, ℤ, ◌&&◌, ◌++◌, ◌||◌, ◌∷◌}
+use Rattle.std.specs.Prelude.{Bool, List, None, Option, Some, [], codes, cond, eqb, false, find, not}
+use Rattle.std.specs.Prelude.{option_map, pos, suc, take, true, unwrap_or, ℕ, ℤ, ◌&&◌, ◌++◌, ◌||◌, ◌∷◌}
 use Rattle.profile_image.specs.declared.limits.TheConstants.{LAST_OUTSIDE_LINE}
 use Rattle.ada_legality.specs.declared.parts.AspectName.TheVariants as aspect_is
 use Rattle.ada_legality.specs.declared.findings.Finding.TheVariants as finding

@@ -1,7 +1,8 @@
 -- Attributes (3.5, 9.9, C.7.1, 3.10.2), variables (3.3), and the unit in whose body a name stands.
 use Rattle.ada_image.specs.ImageOfExpressions.{prefix_part}
 use Rattle.ada_legality.specs.Types.{has_ranges, is_discrete, typed_as, typed_if}
-use Rattle.ada_legality.specs.Values.{denoted_kind, entity_of_name, is_kind, is_library_object, is_object_kind, is_type, kind_of_name, stands_in_type, subtype_of_entity, type_around, unit_around}
+use Rattle.ada_legality.specs.Values.{denoted_kind, entity_of_name, is_kind, is_library_object, is_object_kind, is_type}
+use Rattle.ada_legality.specs.Values.{kind_of_name, stands_in_type, subtype_of_entity, type_around, unit_around}
 use Rattle.ada_legality.specs.Words.{body_around}
 use Rattle.ada_legality.specs.declared.reading.Typed.{Typed}
 use Rattle.ada_legality.specs.declared.standing.Around.{Around}
@@ -21,7 +22,8 @@ use Rattle.ada_tree.specs.declared.names.Name.{Name}
 use Rattle.ada_tree.specs.declared.operators.Attribute.{Attribute}
 use Rattle.profile_image.specs.declared.declarations.EntryUnit.{EntryUnit}
 use Rattle.profile_image.specs.declared.numbers.ProtectedUnitNo.{ProtectedUnitNo}
-use Rattle.std.specs.Prelude.{Bool, List, None, Option, Some, cond, false, find, not, option_map, slice_get, true, unwrap_or, ℕ, ◌&&◌}
+use Rattle.std.specs.Prelude.{Bool, List, None, Option, Some, cond, false, find}
+use Rattle.std.specs.Prelude.{not, option_map, slice_get, true, unwrap_or, ℕ, ◌&&◌}
 use Rattle.ada_legality.specs.declared.standing.Around.TheVariants as around
 use Rattle.ada_tree.specs.declared.operators.Attribute.TheVariants as attribute
 use Rattle.ada_regions.specs.declared.entities.EntityKind.TheVariants as entity

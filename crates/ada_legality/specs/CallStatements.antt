@@ -5,7 +5,8 @@ use Rattle.ada_legality.specs.Findings.{Found, broken, broken_if, broken_unless}
 use Rattle.ada_legality.specs.Places.{place_of}
 use Rattle.ada_legality.specs.ReadExpressions.{arguments_read, is_unclear_mark, read_expression, unless_denoted}
 use Rattle.ada_legality.specs.Reading.{actuals_judged, expected, fitted, literal_in, other_pointed_literal}
-use Rattle.ada_legality.specs.Types.{has_ranges, is_event_timer_or_budget, is_pointed, is_root_controlled, is_scalar, is_scalar_or_array, is_timer}
+use Rattle.ada_legality.specs.Types.{has_ranges, is_event_timer_or_budget, is_pointed}
+use Rattle.ada_legality.specs.Types.{is_root_controlled, is_scalar, is_scalar_or_array, is_timer}
 use Rattle.ada_legality.specs.Values.{denotes_procedure, is_kind}
 use Rattle.ada_legality.specs.Words.{is_static, static_number}
 use Rattle.ada_legality.specs.declared.limits.TheConstants.{MOST_PARAMETERS}
@@ -29,7 +30,8 @@ use Rattle.ada_tree.specs.declared.names.Name.{Name}
 use Rattle.ada_tree.specs.declared.statements.Call.{Call}
 use Rattle.ann_base.specs.declared.places.Place.{Place}
 use Rattle.std.specs.List.{flat_map}
-use Rattle.std.specs.Prelude.{Bool, List, None, Option, Some, [], codes, cond, false, int_lt, is_some, not, option_map, slice_get, true, unwrap_or, ℕ, ℤ, ◌&&◌, ◌++◌, ◌||◌, ◌∷◌}
+use Rattle.std.specs.Prelude.{Bool, List, None, Option, Some, [], codes, cond, false, int_lt, is_some}
+use Rattle.std.specs.Prelude.{not, option_map, slice_get, true, unwrap_or, ℕ, ℤ, ◌&&◌, ◌++◌, ◌||◌, ◌∷◌}
 use Rattle.ada_legality.specs.declared.reading.Asked.TheVariants as asking
 use Rattle.ada_regions.specs.declared.entities.Denoted.TheVariants as denotes
 use Rattle.ada_tree.specs.declared.declarations.Constraint.TheVariants as indicated

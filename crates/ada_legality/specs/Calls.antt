@@ -21,7 +21,9 @@ use Rattle.ada_regions.specs.declared.types.Subtype.{Subtype}
 use Rattle.ada_regions.specs.TypeKinds.{is_span_type}
 use Rattle.ann_base.specs.declared.places.Place.{Place}
 use Rattle.std.specs.List.{list_all, list_any}
-use Rattle.std.specs.Prelude.{Bool, List, None, Option, Some, [], codes, cond, eqb, false, is_none, is_some, length, ltb, map, not, option_map, slice_get, suc, take, true, unwrap_or, ℕ, ◌&&◌, ◌++◌, ◌||◌, ◌∷◌}
+use Rattle.std.specs.Prelude.{Bool, List, None, Option, Some, [], codes, cond, eqb, false}
+use Rattle.std.specs.Prelude.{is_none, is_some, length, ltb, map, not, option_map, slice_get}
+use Rattle.std.specs.Prelude.{suc, take, true, unwrap_or, ℕ, ◌&&◌, ◌++◌, ◌||◌, ◌∷◌}
 use Rattle.std.specs.Str.{bytes_eq}
 use Rattle.ada_regions.specs.declared.entities.Denoted.TheVariants as denotes
 use Rattle.ada_regions.specs.declared.entities.EntityKind.TheVariants as entity

@@ -2,7 +2,8 @@
 use Rattle.ada_legality.specs.CallStatements.{not_static}
 use Rattle.ada_legality.specs.Findings.{Found, broken_if, broken_unless}
 use Rattle.ada_legality.specs.ReadExpressions.{read_expression}
-use Rattle.ada_legality.specs.Reading.{call_inside, expected, integer_literal, is_discrete_or_refused, literal_in, other_pointed_literal}
+use Rattle.ada_legality.specs.Reading.{call_inside, expected, integer_literal}
+use Rattle.ada_legality.specs.Reading.{is_discrete_or_refused, literal_in, other_pointed_literal}
 use Rattle.ada_legality.specs.Types.{discrete_if, operand_type}
 use Rattle.ada_legality.specs.Words.{static_number, truth_number}
 use Rattle.ada_legality.specs.declared.parts.ChoicePart.{ChoicePart}
@@ -20,7 +21,8 @@ use Rattle.ann_base.specs.declared.places.Place.{Place}
 use Rattle.profile_image.specs.declared.values.Constraint.{Constraint}
 use Rattle.std.specs.List.{list_all, list_any}
 use Rattle.profile_image.specs.declared.limits.TheConstants.{INTEGER_FIRST, INTEGER_LAST}
-use Rattle.std.specs.Prelude.{Bool, List, None, Option, Some, [], cond, false, int_le, int_lt, is_some, length, not, option_map, pos, slice_get, true, unwrap_or, ℤ, ◌&&◌, ◌++◌, ◌+ℤ◌, ◌-◌, ◌||◌, ◌∷◌}
+use Rattle.std.specs.Prelude.{Bool, List, None, Option, Some, [], cond, false, int_le, int_lt, is_some, length, not}
+use Rattle.std.specs.Prelude.{option_map, pos, slice_get, true, unwrap_or, ℤ, ◌&&◌, ◌++◌, ◌+ℤ◌, ◌-◌, ◌||◌, ◌∷◌}
 use Rattle.ada_legality.specs.declared.reading.Asked.TheVariants as asking
 use Rattle.ada_tree.specs.declared.statements.Choice.TheVariants as choice
 use Rattle.profile_image.specs.declared.values.Constraint.TheVariants as constraint

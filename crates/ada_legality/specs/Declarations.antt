@@ -2,7 +2,8 @@
 use Rattle.ada_image.specs.UnitsOfImage.{entries_of, has_one_of_type}
 use Rattle.ada_legality.specs.Aspects.{aspects_found, is_other_ceiling, place_of_priority, stated_level, stated_value}
 use Rattle.ada_legality.specs.Attributes.{is_library_entity, is_own_entry, kind_of_identifier}
-use Rattle.ada_legality.specs.CallStatements.{all_found, beyond, bounds_judged, found_if, indication_found, parameters_found, type_of_mark, value_alone_found, value_found}
+use Rattle.ada_legality.specs.CallStatements.{all_found, beyond, bounds_judged, found_if, indication_found}
+use Rattle.ada_legality.specs.CallStatements.{parameters_found, type_of_mark, value_alone_found, value_found}
 use Rattle.ada_legality.specs.Findings.{Found, broken_if, broken_unless}
 use Rattle.ada_legality.specs.Places.{place_of, place_of_specification}
 use Rattle.ada_legality.specs.Profiles.{body_noted, body_profile_judged, declaration_noted, entry_body_profile_judged}
@@ -10,7 +11,8 @@ use Rattle.ada_legality.specs.ReadExpressions.{read_expression, unless_denoted}
 use Rattle.ada_legality.specs.Reading.{expected}
 use Rattle.ada_legality.specs.SimpleStatements.{beyond_restriction, cells_noted, with_around}
 use Rattle.ada_legality.specs.Statements.{handled_judged, handler_found, statement_found}
-use Rattle.ada_legality.specs.Types.{has_no_values, is_event_timer_or_budget, is_root_controlled, is_scalar, is_task_id, is_timer, type_of_bounds}
+use Rattle.ada_legality.specs.Types.{has_no_values, is_event_timer_or_budget, is_root_controlled}
+use Rattle.ada_legality.specs.Types.{is_scalar, is_task_id, is_timer, type_of_bounds}
 use Rattle.ada_legality.specs.Values.{entity_of_name, formals_of_subprogram, is_library_object}
 use Rattle.ada_legality.specs.Words.{static_number}
 use Rattle.ada_legality.specs.declared.limits.TheConstants.{MOST_COMPONENTS, MOST_ENTRIES}
@@ -68,7 +70,9 @@ use Rattle.ada_tree.specs.declared.statements.Sequence.TheOpen.{Sequence-F}
 use Rattle.ada_tree.specs.declared.statements.SequenceParts.{SequenceParts}
 use Rattle.ann_base.specs.declared.places.Place.{Place}
 use Rattle.std.specs.List.{flat_map, list_any}
-use Rattle.std.specs.Prelude.{Bool, List, None, Option, Some, [], codes, cond, eqb, false, int_le, is_none, is_some, map, not, option_map, pos, slice_get, suc, true, unwrap_or, ℕ, ℤ, ◌&&◌, ◌++◌, ◌-ℤ◌, ◌||◌, ◌∷◌}
+use Rattle.std.specs.Prelude.{Bool, List, None, Option, Some, [], codes, cond, eqb, false}
+use Rattle.std.specs.Prelude.{int_le, is_none, is_some, map, not, option_map, pos, slice_get}
+use Rattle.std.specs.Prelude.{suc, true, unwrap_or, ℕ, ℤ, ◌&&◌, ◌++◌, ◌-ℤ◌, ◌||◌, ◌∷◌}
 use Rattle.std.specs.Str.{bytes_eq}
 use Rattle.ada_legality.specs.declared.standing.Around.TheVariants as around
 use Rattle.ada_legality.specs.declared.reading.Asked.TheVariants as asking

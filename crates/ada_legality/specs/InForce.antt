@@ -11,7 +11,8 @@ use Rattle.ada_tree.specs.declared.expressions.Expression.{Expression}
 use Rattle.ada_tree.specs.declared.units.Pragma.{Pragma}
 use Rattle.profile_image.specs.declared.image.Dispatching.{Dispatching}
 use Rattle.std.specs.List.{flat_map, list_any}
-use Rattle.std.specs.Prelude.{Bool, List, None, Option, Some, [], codes, cond, false, filter, int_le, is_some, map, not, option_map, true, unwrap_or, ℕ, ℤ, ◌∷◌}
+use Rattle.std.specs.Prelude.{Bool, List, None, Option, Some, [], codes, cond, false, filter}
+use Rattle.std.specs.Prelude.{int_le, is_some, map, not, option_map, true, unwrap_or, ℕ, ℤ, ◌∷◌}
 use Rattle.std.specs.Str.{bytes_eq}
 use Rattle.profile_image.specs.declared.image.Dispatching.TheVariants as dispatching
 

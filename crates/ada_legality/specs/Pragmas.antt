@@ -23,7 +23,8 @@ use Rattle.ada_tree.specs.declared.operators.Attribute.{Attribute}
 use Rattle.ada_tree.specs.declared.units.Pragma.{Pragma}
 use Rattle.profile_image.specs.declared.values.Constraint.{Constraint}
 use Rattle.std.specs.List.{list_all, list_any}
-use Rattle.std.specs.Prelude.{Bool, List, None, Option, Some, [], codes, cond, false, int_le, is_some, map, neg_ℤ, not, option_map, pos, suc, take, unwrap_or, ℕ, ℤ, ◌&&◌, ◌++◌, ◌||◌, ◌∷◌}
+use Rattle.std.specs.Prelude.{Bool, List, None, Option, Some, [], codes, cond, false, int_le, is_some, map}
+use Rattle.std.specs.Prelude.{neg_ℤ, not, option_map, pos, suc, take, unwrap_or, ℕ, ℤ, ◌&&◌, ◌++◌, ◌||◌, ◌∷◌}
 use Rattle.std.specs.Str.{bytes_eq}
 use Rattle.ada_tree.specs.declared.operators.Attribute.TheVariants as attribute
 use Rattle.ada_tree.specs.declared.expressions.ExpressionForm.TheVariants as form

@@ -21,7 +21,8 @@ use Rattle.ada_tree.specs.declared.declarations.SubtypeIndication.{SubtypeIndica
 use Rattle.ada_tree.specs.declared.names.Identifier.{Identifier}
 use Rattle.ann_base.specs.declared.places.Place.{Place}
 use Rattle.std.specs.List.{flat_map}
-use Rattle.std.specs.Prelude.{Bool, List, None, Option, Some, [], cond, false, map, not, option_map, true, unwrap_or, ℕ, ◌&&◌, ◌∷◌}
+use Rattle.std.specs.Prelude.{Bool, List, None, Option, Some, [], cond, false}
+use Rattle.std.specs.Prelude.{map, not, option_map, true, unwrap_or, ℕ, ◌&&◌, ◌∷◌}
 use Rattle.std.specs.Str.{bytes_eq}
 use Rattle.profile_image.specs.Words.{same_number}
 use Rattle.ada_legality.specs.declared.findings.BodyKind.TheVariants as completing

@@ -1,11 +1,19 @@
 -- How expressions are read (clause 4): what stands in an expression comes before what it breaks itself.
-use Rattle.ada_image.specs.ImageOfExpressions.{highest_operator, logical_operator, multiplying_operator, relational_operator}
-use Rattle.ada_legality.specs.Attributes.{ends_of_object, has_count, has_images, is_library_handler, is_task_object, is_variable, takes_arguments, type_of_ends, typed_attribute_of}
+use Rattle.ada_image.specs.ImageOfExpressions.{highest_operator, logical_operator}
+use Rattle.ada_image.specs.ImageOfExpressions.{multiplying_operator, relational_operator}
+use Rattle.ada_legality.specs.Attributes.{ends_of_object, has_count, has_images, is_library_handler, is_task_object}
+use Rattle.ada_legality.specs.Attributes.{is_variable, takes_arguments, type_of_ends, typed_attribute_of}
 use Rattle.ada_legality.specs.Calls.{formals_denoted, without_name}
 use Rattle.ada_legality.specs.Findings.{Found, broken, broken_if, broken_unless}
 use Rattle.ada_legality.specs.Places.{place_of}
-use Rattle.ada_legality.specs.Reading.{Reading, actuals_judged, actuals_numbered, as_operand, bracketed_read, call_inside, compared_read, denotes_barrier_part, first_relation, first_term, fitted, highest_read, image_length, number_read, operation_judged, operation_of_one_judged, plain_read, signed_judged, signed_read, sum_judged, text_read, type_of_prefix, with_factor, with_relation, with_term}
-use Rattle.ada_legality.specs.Values.{denoted_kind, denotes_function, denotes_value, is_denoted, is_function_kind, is_kind, is_object_kind, is_procedure_kind, kind_of_name, subtype_of_entity, typed_name}
+use Rattle.ada_legality.specs.Reading.{Reading, actuals_judged, actuals_numbered, as_operand, bracketed_read}
+use Rattle.ada_legality.specs.Reading.{call_inside, compared_read, denotes_barrier_part, first_relation, first_term}
+use Rattle.ada_legality.specs.Reading.{fitted, highest_read, image_length, number_read, operation_judged}
+use Rattle.ada_legality.specs.Reading.{operation_of_one_judged, plain_read, signed_judged, signed_read, sum_judged}
+use Rattle.ada_legality.specs.Reading.{text_read, type_of_prefix, with_factor, with_relation, with_term}
+use Rattle.ada_legality.specs.Values.{denoted_kind, denotes_function, denotes_value, is_denoted}
+use Rattle.ada_legality.specs.Values.{is_function_kind, is_kind, is_object_kind, is_procedure_kind}
+use Rattle.ada_legality.specs.Values.{kind_of_name, subtype_of_entity, typed_name}
 use Rattle.ada_legality.specs.declared.parts.ActualPart.{ActualPart}
 use Rattle.ada_legality.specs.declared.reading.NameShape.{NameShape}
 use Rattle.ada_legality.specs.declared.reading.Read.{Read}
@@ -36,7 +44,8 @@ use Rattle.ada_tree.specs.declared.operators.LogicalOperator.{LogicalOperator}
 use Rattle.ada_tree.specs.declared.operators.RelationalOperator.{RelationalOperator}
 use Rattle.ada_tree.specs.declared.operators.Sign.{Sign}
 use Rattle.ann_base.specs.declared.places.Place.{Place}
-use Rattle.std.specs.Prelude.{Bool, List, None, Option, Some, [], cond, false, is_none, is_some, not, option_map, true, unwrap_or, ◌&&◌, ◌++◌, ◌||◌, ◌∷◌}
+use Rattle.std.specs.Prelude.{Bool, List, None, Option, Some, [], cond, false, is_none}
+use Rattle.std.specs.Prelude.{is_some, not, option_map, true, unwrap_or, ◌&&◌, ◌++◌, ◌||◌, ◌∷◌}
 use Rattle.ada_legality.specs.declared.reading.Asked.TheVariants as asking
 use Rattle.ada_tree.specs.declared.operators.Attribute.TheVariants as attribute
 use Rattle.ada_regions.specs.declared.entities.EntityKind.TheVariants as entity

@@ -1,11 +1,13 @@
 -- What is asked of an expression that is read, in its place (clause 4), and Image, barriers, signs and chains of
 -- operators.
-use Rattle.ada_image.specs.ImageOfExpressions.{highest_operator, logical_operator, multiplying_operator, relational_operator}
+use Rattle.ada_image.specs.ImageOfExpressions.{highest_operator, logical_operator}
+use Rattle.ada_image.specs.ImageOfExpressions.{multiplying_operator, relational_operator}
 use Rattle.ada_image.specs.UnitsOfImage.{is_in_out}
 use Rattle.ada_legality.specs.Attributes.{innermost_unit}
 use Rattle.ada_legality.specs.Calls.{actual_from, is_formal_named, wrong_actuals}
 use Rattle.ada_legality.specs.Findings.{Found, broken, broken_if, broken_unless}
-use Rattle.ada_legality.specs.Types.{discrete_if, fits, has_type, is_discrete, is_duration, is_integer, is_text, operation_type, operation_type_of_one, same_type, typed_if, typed_is}
+use Rattle.ada_legality.specs.Types.{discrete_if, fits, has_type, is_discrete, is_duration, is_integer, is_text}
+use Rattle.ada_legality.specs.Types.{operation_type, operation_type_of_one, same_type, typed_if, typed_is}
 use Rattle.ada_legality.specs.Values.{denoted_kind, formals_of_subprogram, is_literal_kind, is_type}
 use Rattle.ann_base.specs.declared.names.TheConstants.{NAME_BYTES}
 use Rattle.ada_legality.specs.declared.parts.ActualPart.{ActualPart}
@@ -47,7 +49,8 @@ use Rattle.ann_base.specs.declared.places.Place.{Place}
 use Rattle.profile_image.specs.declared.expressions.BinaryOperator.{BinaryOperator}
 use Rattle.profile_image.specs.declared.expressions.UnaryOperator.{UnaryOperator}
 use Rattle.std.specs.List.{list_any}
-use Rattle.std.specs.Prelude.{Bool, List, None, Option, Some, [], codes, cond, false, is_none, is_some, leb, length, max, not, option_map, slice_get, suc, true, unwrap_or, ℕ, ◌&&◌, ◌++◌, ◌+◌, ◌||◌, ◌∷◌}
+use Rattle.std.specs.Prelude.{Bool, List, None, Option, Some, [], codes, cond, false, is_none, is_some, leb, length}
+use Rattle.std.specs.Prelude.{max, not, option_map, slice_get, suc, true, unwrap_or, ℕ, ◌&&◌, ◌++◌, ◌+◌, ◌||◌, ◌∷◌}
 use Rattle.ada_tree.specs.declared.operators.AddingOperator.TheVariants as adding
 use Rattle.ada_legality.specs.declared.standing.Around.TheVariants as around
 use Rattle.ada_legality.specs.declared.reading.Asked.TheVariants as asking

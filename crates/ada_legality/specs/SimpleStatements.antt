@@ -1,12 +1,17 @@
 -- What is found in statements without others in them, and in the heads of those with others (clauses 5, 6.5, 9, 11).
-use Rattle.ada_legality.specs.Attributes.{ends_of_object, innermost_unit, is_task_object, is_type_in, is_variable, kind_of_identifier, object_prefix, unit_type_of_entry}
-use Rattle.ada_legality.specs.CallStatements.{beyond, call_found, condition_found, found_if, value_alone_found, value_found}
+use Rattle.ada_legality.specs.Attributes.{ends_of_object, innermost_unit, is_task_object, is_type_in}
+use Rattle.ada_legality.specs.Attributes.{is_variable, kind_of_identifier, object_prefix, unit_type_of_entry}
+use Rattle.ada_legality.specs.CallStatements.{beyond, call_found, condition_found}
+use Rattle.ada_legality.specs.CallStatements.{found_if, value_alone_found, value_found}
 use Rattle.ada_legality.specs.Findings.{Found, broken_if, broken_unless}
 use Rattle.ada_legality.specs.Places.{place_of, place_of_alternative, place_of_alternative_in}
-use Rattle.ada_legality.specs.ReadExpressions.{component_owner, index_fits, is_declared_object, is_unclear_object, read_expression, typed_expression, unless_denoted}
+use Rattle.ada_legality.specs.ReadExpressions.{component_owner, index_fits, is_declared_object, is_unclear_object}
+use Rattle.ada_legality.specs.ReadExpressions.{read_expression, typed_expression, unless_denoted}
 use Rattle.ada_legality.specs.Reading.{component_assigned, expected, fitted}
-use Rattle.ada_legality.specs.Types.{fits, has_type, is_copied_controlled, is_limited, operand_type, same_type_if, type_of_bounds, typed_is}
-use Rattle.ada_legality.specs.Values.{denoted_kind, denotes_object, denotes_value, is_denoted, is_kind, kind_of_name, stands_in_unit, typed_name}
+use Rattle.ada_legality.specs.Types.{fits, has_type, is_copied_controlled, is_limited}
+use Rattle.ada_legality.specs.Types.{operand_type, same_type_if, type_of_bounds, typed_is}
+use Rattle.ada_legality.specs.Values.{denoted_kind, denotes_object, denotes_value, is_denoted}
+use Rattle.ada_legality.specs.Values.{is_kind, kind_of_name, stands_in_unit, typed_name}
 use Rattle.ada_legality.specs.Words.{any_in_body, any_in_sequence, is_accept, sequence_around}
 use Rattle.ada_legality.specs.declared.limits.TheConstants.{MOST_ALTERNATIVES}
 use Rattle.ada_legality.specs.declared.parts.AlternativeKind.{AlternativeKind}
@@ -49,7 +54,8 @@ use Rattle.ann_base.specs.declared.places.Place.{Place}
 use Rattle.profile_image.specs.declared.numbers.DeclNo.{DeclNo}
 use Rattle.profile_image.specs.Words.{same_bool}
 use Rattle.std.specs.List.{flat_map, list_all, list_any}
-use Rattle.std.specs.Prelude.{Bool, List, None, Option, Some, [], cond, eqb, false, filter, is_some, leb, length, ltb, not, option_map, pos, true, unwrap_or, ℕ, ℤ, ◌&&◌, ◌++◌, ◌||◌, ◌∷◌}
+use Rattle.std.specs.Prelude.{Bool, List, None, Option, Some, [], cond, eqb, false, filter, is_some, leb}
+use Rattle.std.specs.Prelude.{length, ltb, not, option_map, pos, true, unwrap_or, ℕ, ℤ, ◌&&◌, ◌++◌, ◌||◌, ◌∷◌}
 use Rattle.ada_tree.specs.declared.selects.Alternative.TheVariants as alternative
 use Rattle.ada_legality.specs.declared.parts.AlternativeKind.TheVariants as alternatives
 use Rattle.ada_legality.specs.declared.standing.Around.TheVariants as around

@@ -6,7 +6,11 @@ use Rattle.ada_legality.specs.Findings.{Found, broken, broken_if, broken_unless}
 use Rattle.ada_legality.specs.Places.{place_of, place_of_loop}
 use Rattle.ada_legality.specs.Profiles.{accept_conforms}
 use Rattle.ada_legality.specs.ReadExpressions.{read_expression, unless_denoted}
-use Rattle.ada_legality.specs.SimpleStatements.{abort_found, alternative_part, assignment_found, delay_found, denotes_exception, entry_call_found, exit_found, guard_found, iteration_found, raise_found, requeue_found, return_found, same_entities, selective_accept_judged, task_type_of_entry, trigger_found, with_around, with_iteration}
+use Rattle.ada_legality.specs.SimpleStatements.{abort_found, alternative_part, assignment_found, delay_found}
+use Rattle.ada_legality.specs.SimpleStatements.{denotes_exception, entry_call_found, exit_found, guard_found}
+use Rattle.ada_legality.specs.SimpleStatements.{iteration_found, raise_found, requeue_found, return_found}
+use Rattle.ada_legality.specs.SimpleStatements.{same_entities, selective_accept_judged, task_type_of_entry}
+use Rattle.ada_legality.specs.SimpleStatements.{trigger_found, with_around, with_iteration}
 use Rattle.ada_legality.specs.Values.{is_denoted}
 use Rattle.ada_legality.specs.Words.{any_in_body, same_named}
 use Rattle.ada_legality.specs.declared.standing.Around.{Around}
@@ -40,7 +44,8 @@ use Rattle.ada_tree.specs.declared.statements.Loop.{Loop}
 use Rattle.ada_tree.specs.declared.statements.Statement.{Statement}
 use Rattle.ann_base.specs.declared.places.Place.{Place}
 use Rattle.std.specs.List.{flat_map, list_any}
-use Rattle.std.specs.Prelude.{Bool, List, Option, [], false, is_some, map, not, option_map, suc, take, true, unwrap_or, ℕ, ◌&&◌, ◌++◌, ◌||◌, ◌∷◌}
+use Rattle.std.specs.Prelude.{Bool, List, Option, [], false, is_some, map, not, option_map}
+use Rattle.std.specs.Prelude.{suc, take, true, unwrap_or, ℕ, ◌&&◌, ◌++◌, ◌||◌, ◌∷◌}
 use Rattle.ada_tree.specs.declared.selects.Alternative.TheVariants as alternative
 use Rattle.ada_legality.specs.declared.standing.Around.TheVariants as around
 use Rattle.ada_tree.specs.declared.statements.HandledExceptions.TheVariants as exceptions

@@ -7,11 +7,13 @@ use Rattle.std.specs.Bool.{then_some}
 use Rattle.ada_regions.specs.declared.table.Names.{Names}
 use Rattle.ada_regions.specs.declared.types.AdaType.{AdaType}
 use Rattle.ada_regions.specs.declared.types.Subtype.{Subtype}
-use Rattle.ada_regions.specs.TypeKinds.{is_task_type, is_protected_type, is_controlled_type, is_array_type, is_span_type}
+use Rattle.ada_regions.specs.TypeKinds.{is_task_type, is_protected_type}
+use Rattle.ada_regions.specs.TypeKinds.{is_controlled_type, is_array_type, is_span_type}
 use Rattle.profile_image.specs.declared.expressions.BinaryOperator.{BinaryOperator}
 use Rattle.profile_image.specs.declared.expressions.UnaryOperator.{UnaryOperator}
 use Rattle.profile_image.specs.declared.numbers.ControlledNo.{ControlledNo}
-use Rattle.std.specs.Prelude.{Bool, None, Option, Some, cond, eqb, false, not, option_map, slice_get, true, unwrap_or, ℕ, ◌&&◌, ◌||◌}
+use Rattle.std.specs.Prelude.{Bool, None, Option, Some, cond, eqb, false, not}
+use Rattle.std.specs.Prelude.{option_map, slice_get, true, unwrap_or, ℕ, ◌&&◌, ◌||◌}
 use Rattle.profile_image.specs.declared.expressions.BinaryOperator.TheVariants as binary
 use Rattle.ada_regions.specs.declared.types.AdaType.TheVariants as types
 use Rattle.ada_legality.specs.declared.reading.Typed.TheVariants as typing

@@ -24,7 +24,8 @@ use Rattle.ada_regions.specs.Regions.{is_entry}
 use Rattle.ada_tree.specs.declared.names.Name.{Name}
 use Rattle.profile_image.specs.declared.numbers.DeclNo.{DeclNo}
 use Rattle.std.specs.List.{list_any}
-use Rattle.std.specs.Prelude.{Bool, List, None, Option, Some, [], cond, eqb, false, find, is_some, not, option_map, pos, position, slice_get, suc, true, unwrap_or, ℕ, ◌||◌}
+use Rattle.std.specs.Prelude.{Bool, List, None, Option, Some, [], cond, eqb, false, find, is_some, not}
+use Rattle.std.specs.Prelude.{option_map, pos, position, slice_get, suc, true, unwrap_or, ℕ, ◌||◌}
 use Rattle.ada_legality.specs.declared.standing.Around.TheVariants as around
 use Rattle.profile_image.specs.declared.values.Constraint.TheVariants as constraint
 use Rattle.ada_regions.specs.declared.entities.Denoted.TheVariants as denotes

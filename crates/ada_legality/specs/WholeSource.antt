@@ -15,7 +15,9 @@ use Rattle.ada_regions.specs.declared.table.Names.{Names}
 use Rattle.ada_regions.specs.declared.table.NumberedDeclaration.{NumberedDeclaration}
 use Rattle.ann_base.specs.declared.places.Place.{Place}
 use Rattle.std.specs.List.{flat_map, list_any}
-use Rattle.std.specs.Prelude.{Bool, List, None, Option, Some, [], cond, eqb, false, filter, int_le, is_some, leb, length, ltb, not, option_map, pos, suc, take, true, unwrap_or, ℕ, ℤ, ◌&&◌, ◌++◌, ◌+◌, ◌||◌, ◌∷◌}
+use Rattle.std.specs.Prelude.{Bool, List, None, Option, Some, [], cond, eqb, false, filter}
+use Rattle.std.specs.Prelude.{int_le, is_some, leb, length, ltb, not, option_map, pos, suc}
+use Rattle.std.specs.Prelude.{take, true, unwrap_or, ℕ, ℤ, ◌&&◌, ◌++◌, ◌+◌, ◌||◌, ◌∷◌}
 use Rattle.profile_image.specs.Words.{same_number}
 use Rattle.ada_legality.specs.declared.findings.BodyKind.TheVariants as completing
 use Rattle.ada_legality.specs.declared.findings.Finding.TheVariants as finding

@@ -18,7 +18,8 @@ use Rattle.ada_tree.specs.declared.expressions.Expression.TheViews.{out-Expressi
 use Rattle.ada_tree.specs.declared.expressions.ExpressionForm.{ExpressionForm}
 use Rattle.ada_tree.specs.declared.names.Name.{Name}
 use Rattle.profile_image.specs.declared.values.Value.{Value}
-use Rattle.std.specs.Prelude.{Bool, List, None, Option, Some, [], cond, eqb, false, find, int_le, is_some, neg_ℤ, option_map, pos, true, ℕ, ℤ, ◌&&◌, ◌||◌, ◌∷◌}
+use Rattle.std.specs.Prelude.{Bool, List, None, Option, Some, [], cond, eqb, false, find, int_le}
+use Rattle.std.specs.Prelude.{is_some, neg_ℤ, option_map, pos, true, ℕ, ℤ, ◌&&◌, ◌||◌, ◌∷◌}
 use Rattle.std.specs.Str.{bytes_eq}
 use Rattle.ada_legality.specs.declared.standing.Around.TheVariants as around
 use Rattle.ada_regions.specs.declared.entities.Denoted.TheVariants as denotes

@@ -1,5 +1,5 @@
-//! Lists of what is found and read. The check of borrows asks that a function which adds an item names the types in it that hold
-//! numbers, so each such list has its function here.
+//! Lists of what is found and read. The check of borrows asks that a function which adds an item
+//! names the types in it that hold numbers, so each such list has its function here.
 ghost use Rattle.std.specs.Prelude.{◌≡◌, ◌++◌, ◌∷◌, [], OnOk};
 
 use crate::findings::{Attached, Ceiling, Finding};

@@ -1,4 +1,5 @@
-//! What is found in a source: rules that are broken, and facts of which rules on the whole source speak.
+//! What is found in a source: rules that are broken, and facts of which rules on the whole source
+//! speak.
 use crate::Fault;
 use crate::numbers::Number;
 use ann_base::Place;

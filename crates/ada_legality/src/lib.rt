@@ -1,5 +1,6 @@
-//! Legality (ISO/IEC 8652:2012, 1.1.2): the rules that a source of the profile has to keep, as definitions in `specs/`, with
-//! the plain data of rules, faults, and what is known and found on the way through a source.
+//! Legality (ISO/IEC 8652:2012, 1.1.2): the rules that a source of the profile has to keep, as
+//! definitions in `specs/`, with the plain data of rules, faults, and what is known and found on
+//! the way through a source.
 #![tactic(auto)]
 
 mod adding;

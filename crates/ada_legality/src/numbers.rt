@@ -1,5 +1,6 @@
 //! Static numbers (ISO/IEC 8652:2012, 4.9), which have no limit of their own.
-ghost use Rattle.std.specs.Prelude.{◌≡◌, ◌+◌, ◌*◌, ◌+ℤ◌, ◌-◌, ◌<◌, ◌^◌, int_le, nat_le, nat_lt, neg_ℤ, pos};
+ghost use Rattle.std.specs.Prelude.{◌≡◌, ◌+◌, ◌*◌, ◌+ℤ◌, ◌-◌, ◌<◌, ◌^◌};
+ghost use Rattle.std.specs.Prelude.{int_le, nat_le, nat_lt, neg_ℤ, pos};
 ghost use Rattle.std.specs.Option.{SomeIff};
 ghost use Rattle.ada_legality.specs.Numbers.{is_below_zero, size_in};
 
@@ -29,7 +30,8 @@ impl Model for Size {
     } };
 
     ghost inverse_ok = { λ n i.
-        ap (λ h. record { high = h; low = (n.high * 2 ^ 64 + n.low) % 2 ^ 64 }) (div-mul-add n.high (2 ^ 64) n.low i)
+        ap (λ h. record { high = h; low = (n.high * 2 ^ 64 + n.low) % 2 ^ 64 })
+        (div-mul-add n.high (2 ^ 64) n.low i)
         ∙ ap (λ l. record { high = n.high; low = l }) (mod-mul-add n.high (2 ^ 64) n.low i) };
 }
 

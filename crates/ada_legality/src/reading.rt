@@ -2,8 +2,8 @@
 use ada_regions::{AdaType, Subtype};
 use ann_base::Place;
 
-/// The type of an expression by its parts alone, with the subtype where it has one. An expression that breaks a rule has none,
-/// so that no second rule speaks of what it stands in.
+/// The type of an expression by its parts alone, with the subtype where it has one. An expression
+/// that breaks a rule has none, so that no second rule speaks of what it stands in.
 #[derive(Clone, Copy)]
 pub enum Typed {
     /// None.

@@ -2,20 +2,24 @@
 ghost use Rattle.std.specs.Prelude.{◌≡◌};
 ghost use Rattle.ada_legality.specs.Faults.{number_of_rule};
 
-/// A rule of legality of the profile. The clause is that of ISO/IEC 8652:2012; a profile's own rule says so.
+/// A rule of legality of the profile. The clause is that of ISO/IEC 8652:2012; a profile's own rule
+/// says so.
 #[derive(Clone, Copy)]
 pub enum Rule {
-    /// A with clause names a library unit, and a unit is used under a with clause alone (10.1.2, 10.1.6).
+    /// A with clause names a library unit, and a unit is used under a with clause alone (10.1.2,
+    /// 10.1.6).
     LibraryUnits,
     /// A package's body follows its declaration, and stands where it is needed (7.2, 10.1.4).
     PackageBodies,
     /// The main procedure is the last unit (this profile's own; 10.2).
     MainProcedureLast,
-    /// What is declared has one body, with its profile, in its declarative part (3.11.1, 6.3, 9.1, 9.4, 9.5.2).
+    /// What is declared has one body, with its profile, in its declarative part (3.11.1, 6.3, 9.1,
+    /// 9.4, 9.5.2).
     Completions,
     /// A name denotes an entity of the kind that may stand there (8.6).
     KindOfName,
-    /// The bounds of subtypes and arrays are static, and arrays are short and of scalars (3.5, 3.6; this profile's own).
+    /// The bounds of subtypes and arrays are static, and arrays are short and of scalars (3.5, 3.6;
+    /// this profile's own).
     StaticBounds,
     /// An Integer literal is a value of Integer (4.9, 3.5.4).
     IntegerLiteral,
@@ -39,7 +43,8 @@ pub enum Rule {
     ExitFromLoop,
     /// A return has a value in a function alone, and a function has a return (6.5, 6.3).
     ReturnStatement,
-    /// A raise without a name stands in a handler; the choices of handlers are distinct (11.2, 11.3).
+    /// A raise without a name stands in a handler; the choices of handlers are distinct (11.2,
+    /// 11.3).
     RaiseAndHandlers,
     /// An accept statement stands in the body of its task (9.5.2).
     AcceptStatement,

@@ -2,7 +2,9 @@
 use Rattle.std.proofs.Common.{◌≡◌, ℕ, refl, get_or, ◌<◌, lit<, List, Option, Some, None, ap, ◌∙◌}
 use Rattle.std.specs.Prelude.{IfNone}
 use Rattle.ada_lex.specs.declared.delimiters.Delimiter.{Delimiter}
-use Rattle.ada_lex.specs.declared.delimiters.Delimiter.TheVariants.{Arrow, Dots, Becomes, NotEqual, AtLeast, AtMost, Ampersand, Apostrophe, OpenBracket, CloseBracket, Asterisk, Plus, Comma, Minus, Point, Solidus, Colon, Semicolon, Less, Equal, Greater, Bar}
+use Rattle.ada_lex.specs.declared.delimiters.Delimiter.TheVariants.{Arrow, Dots, Becomes, NotEqual, AtLeast, AtMost, Ampersand}
+use Rattle.ada_lex.specs.declared.delimiters.Delimiter.TheVariants.{Apostrophe, OpenBracket, CloseBracket, Asterisk, Plus, Comma}
+use Rattle.ada_lex.specs.declared.delimiters.Delimiter.TheVariants.{Minus, Point, Solidus, Colon, Semicolon, Less, Equal, Greater, Bar}
 use Rattle.ada_lex.specs.declared.delimiters.TheConstants.{ALL}
 use Rattle.ada_lex.specs.DelimiterLetters.{delimiter_letters}
 
@@ -78,6 +80,7 @@ at_place Equal = refl
 at_place Greater = refl
 at_place Bar = refl
 
-pub none_of : (o : Option Delimiter) (low : List ℕ) → IfNone o ((k : ℕ) → k < 22 → delimiter_letters (get_or ALL k Arrow) ≡ low → ⊥) → IfNone o ((entry : Delimiter) → delimiter_letters entry ≡ low → ⊥)
+pub none_of : (o : Option Delimiter) (low : List ℕ) → IfNone o ((k : ℕ) → k < 22 → delimiter_letters (get_or ALL k Arrow) ≡ low → ⊥)
+    → IfNone o ((entry : Delimiter) → delimiter_letters entry ≡ low → ⊥)
 none_of None low h = λ entry same. h (place_of entry) (place_in entry) (ap delimiter_letters (at_place entry) ∙ same)
 none_of (Some e) low h = tt

@@ -1,5 +1,7 @@
 -- Each token that is read has its shape, is the longest one there, and keeps the limits.
-use Rattle.std.proofs.Common.{◌≡◌, ℕ, zero, suc, ◌+◌, ◌-◌, ◌^◌, ◌<◌, ◌≤◌, min, Bool, true, false, cond, eqb, leb, ltb, ◌&&◌, ◌||◌, ◌⊎◌, List, [], ◌∷◌, length, take, drop, Option, Some, None, Ok, refl, sym, ap, ◌∙◌, subst, arith, inl, inr, length-drop, length-take-le, take-add, ltb-false, leb-false, eqb-true, sub-one}
+use Rattle.std.proofs.Common.{◌≡◌, ℕ, zero, suc, ◌+◌, ◌-◌, ◌^◌, ◌<◌, ◌≤◌, min, Bool, true, false, cond, eqb, leb, ltb, ◌&&◌}
+use Rattle.std.proofs.Common.{◌||◌, ◌⊎◌, List, [], ◌∷◌, length, take, drop, Option, Some, None, Ok, refl, sym, ap, ◌∙◌, subst}
+use Rattle.std.proofs.Common.{arith, inl, inr, length-drop, length-take-le, take-add, ltb-false, leb-false, eqb-true, sub-one}
 use Rattle.std.specs.Prelude.{position}
 use Rattle.std.proofs.lemmas.Bool.{and_from, and_parts, cases_lt, false≢true, or_parts}
 use Rattle.std.proofs.lemmas.Grind.{common_steps}
@@ -10,7 +12,8 @@ use Rattle.ann_base.specs.declared.places.Place.{Place}
 use Rattle.ada_lex.specs.declared.scan.Run.TheVariants.{Letters, Whole, Decimals, Line}
 use Rattle.ada_lex.specs.declared.tokens.Kind.{Kind}
 use Rattle.ada_lex.specs.declared.tokens.Kind.TheVariants as kinds
-use Rattle.ada_lex.specs.Shapes.{goes_on, begins_with, run_length, value_of, text_length, is_no_text, delimiter_length, is_delimiter, is_double_delimiter, gap_length}
+use Rattle.ada_lex.specs.Shapes.{goes_on, begins_with, run_length, value_of, text_length, is_no_text}
+use Rattle.ada_lex.specs.Shapes.{delimiter_length, is_delimiter, is_double_delimiter, gap_length}
 use Rattle.ada_lex.specs.Reading.{fault_in_word, word_at, number_at, fraction_length, spoils_number, text_at, closed_text, delimiter_unless, token_at}
 use Rattle.ada_lex.specs.Meaning.{whole_of}
 use Rattle.ada_lex.specs.Lexed.{is_run, is_fraction, IsNumber, IsToken, IsWithin, IsLongest, IsApart}
@@ -28,7 +31,8 @@ pub record IsRead (kind : Kind) (n : ℕ) (bytes : List ℕ) : Type 0 where
   pub apart : IsApart kind (take n bytes) (drop n bytes)
 
 -- a front that is a token is no longer than n bytes
-longest_by : (kind : Kind) (n : ℕ) (bytes : List ℕ) → n ≤ length bytes → ((j : ℕ) → j ≤ length bytes → IsToken kind (take j bytes) → j ≤ n) → IsLongest kind (take n bytes) (drop n bytes)
+longest_by : (kind : Kind) (n : ℕ) (bytes : List ℕ) → n ≤ length bytes → ((j : ℕ) → j ≤ length bytes → IsToken kind (take j bytes) → j ≤ n)
+    → IsLongest kind (take n bytes) (drop n bytes)
 longest_by kind n bytes le bound =
     λ k some fits token.
     let all : n + k ≤ length bytes = omega (arith, length-drop n bytes) in
@@ -38,15 +42,24 @@ longest_by kind n bytes le bound =
 
 -- words
 word_fine : (m : ℕ) (rest : List ℕ) → fault_in_word m rest ≡ None → (m ≤ MAX_WORD) × (begins_with (λ b. eqb b 95) rest ≡ false)
-word_fine m [] e = (elim (ltb MAX_WORD m) as (λ v. ltb MAX_WORD m ≡ v → cond {A = Option ℕ} v (Some MAX_WORD) None ≡ None → m ≤ MAX_WORD) [ true ↦ λ t f. absurd cc | false ↦ λ t f. ltb-false MAX_WORD m t ] refl e, refl)
+word_fine m [] e = (
+  elim (ltb MAX_WORD m) as (λ v. ltb MAX_WORD m ≡ v → cond {A = Option ℕ} v (Some MAX_WORD) None ≡ None → m ≤ MAX_WORD) [
+    | true ↦ λ t f. absurd cc
+    | false ↦ λ t f. ltb-false MAX_WORD m t
+  ] refl e,
+  refl,
+)
 word_fine m (b ∷ rest) e = from_test (ltb MAX_WORD m) (eqb b 95) refl refl e
   where
-    from_test : (v w : Bool) → ltb MAX_WORD m ≡ v → eqb b 95 ≡ w → cond {A = Option ℕ} v (Some MAX_WORD) (cond {A = Option ℕ} w (Some (min MAX_WORD (cond (begins_with (λ c. eqb c 95) rest) (m + 1) m))) None) ≡ None → (m ≤ MAX_WORD) × (eqb b 95 ≡ false)
+    from_test : (v w : Bool) → ltb MAX_WORD m ≡ v → eqb b 95 ≡ w
+        → cond {A = Option ℕ} v (Some MAX_WORD) (cond {A = Option ℕ} w (Some (min MAX_WORD (cond (begins_with (λ c. eqb c 95) rest) (m + 1) m))) None) ≡ None
+        → (m ≤ MAX_WORD) × (eqb b 95 ≡ false)
     from_test true w t u f = absurd cc
     from_test false true t u f = absurd cc
     from_test false false t u f = (ltb-false MAX_WORD m t, u)
 
-pub word_read : (place : Place) (bytes : List ℕ) (n : ℕ) → begins_with is_ascii_alphabetic bytes ≡ true → 0 < n → word_at place bytes ≡ Ok n → IsRead kinds.Word n bytes
+pub word_read : (place : Place) (bytes : List ℕ) (n : ℕ) → begins_with is_ascii_alphabetic bytes ≡ true → 0 < n → word_at place bytes ≡ Ok n
+    → IsRead kinds.Word n bytes
 unfolding word_at
 word_read place bytes n letter some e =
     let is = unless_bad_ok (fault_in_word (run_length Letters bytes) (drop (run_length Letters bytes) bytes)) place (run_length Letters bytes) n e in
@@ -68,7 +81,10 @@ behind_front w f bytes = drop-take w f bytes
 
 pub fraction_fits : (bytes : List ℕ) → fraction_length bytes ≤ length bytes
 fraction_fits [] = omega arith
-fraction_fits (b ∷ rest) = elim (eqb b 46 && begins_with is_ascii_digit rest) as (λ v. cond v (suc (run_length Decimals rest)) 0 ≤ suc (length rest)) [ true ↦ omega (arith, run_in_list Decimals rest) | false ↦ omega arith ]
+fraction_fits (b ∷ rest) = elim (eqb b 46 && begins_with is_ascii_digit rest) as (λ v. cond v (suc (run_length Decimals rest)) 0 ≤ suc (length rest)) [
+  | true ↦ omega (arith, run_in_list Decimals rest)
+  | false ↦ omega arith
+]
 
 digits_some : (rest : List ℕ) → begins_with is_ascii_digit rest ≡ true → 0 < run_length Decimals rest
 unfolding run_length
@@ -79,7 +95,8 @@ pub fraction_is : (bytes : List ℕ) → is_fraction (take (fraction_length byte
 fraction_is [] = refl
 fraction_is (b ∷ rest) = from_test (eqb b 46 && begins_with is_ascii_digit rest) refl
   where
-    from_test : (v : Bool) → (eqb b 46 && begins_with is_ascii_digit rest) ≡ v → is_fraction (take (cond v (suc (run_length Decimals rest)) 0) (b ∷ rest)) ≡ true
+    from_test : (v : Bool) → (eqb b 46 && begins_with is_ascii_digit rest) ≡ v
+        → is_fraction (take (cond v (suc (run_length Decimals rest)) 0) (b ∷ rest)) ≡ true
     from_test false e = refl
     from_test true e =
         let p = and_parts (eqb b 46) (begins_with is_ascii_digit rest) e in
@@ -97,18 +114,21 @@ fraction_longest k i bytes some fits e le = behind (drop k bytes) refl
     behind [] is = absurd (omega (arith, length-drop k bytes, ap length is))
     behind (b ∷ rest) is =
         let j : i ≡ suc (i - 1) = omega arith in
-        let read : is_fraction (b ∷ take (i - 1) rest) ≡ true = subst (λ (m : ℕ). is_fraction (take m (b ∷ rest)) ≡ true) j (subst (λ (x : List ℕ). is_fraction (take i x) ≡ true) is e) in
+        let read : is_fraction (b ∷ take (i - 1) rest) ≡ true =
+        subst (λ (m : ℕ). is_fraction (take m (b ∷ rest)) ≡ true) j (subst (λ (x : List ℕ). is_fraction (take i x) ≡ true) is e) in
         let p = and_parts _ _ read in
         let q = and_parts _ _ p.0 in
         let stops : goes_on Whole (drop k bytes) ≡ false = ap (goes_on Whole) is ∙ point_stops b rest q.0 in
         let whole : run_length Whole bytes ≡ k = omega (arith, le, run_stop Whole k bytes stops) in
         let more : begins_with is_ascii_digit rest ≡ true = begins_in_whole is_ascii_digit (i - 1) rest q.1 in
-        let behind_k : fraction_length (drop (run_length Whole bytes) bytes) ≡ suc (run_length Decimals rest) = ap (λ (m : ℕ). fraction_length (drop m bytes)) whole ∙ ap fraction_length is ∙ rw (and_from _ _ q.0 more) refl in
+        let behind_k : fraction_length (drop (run_length Whole bytes) bytes) ≡ suc (run_length Decimals rest) =
+        ap (λ (m : ℕ). fraction_length (drop m bytes)) whole ∙ ap fraction_length is ∙ rw (and_from _ _ q.0 more) refl in
         let rest_fits : i - 1 ≤ length rest = omega (arith, length-drop k bytes, ap length is) in
         let there : i - 1 ≤ run_length Decimals rest = run_longest Decimals (i - 1) rest rest_fits p.1 in
         omega (arith, behind_k, whole, there)
 
-pub number_longest : (j : ℕ) (bytes : List ℕ) → j ≤ length bytes → IsNumber (take j bytes) → j ≤ run_length Whole bytes + fraction_length (drop (run_length Whole bytes) bytes)
+pub number_longest : (j : ℕ) (bytes : List ℕ) → j ≤ length bytes → IsNumber (take j bytes)
+    → j ≤ run_length Whole bytes + fraction_length (drop (run_length Whole bytes) bytes)
 number_longest j bytes fits number = split (cases_lt number.0 j)
   where
     split : ((number.0 < j) ⊎ (j ≤ number.0)) → j ≤ run_length Whole bytes + fraction_length (drop (run_length Whole bytes) bytes)
@@ -120,7 +140,9 @@ number_longest j bytes fits number = split (cases_lt number.0 j)
         let front : take number.0 (take j bytes) ≡ take number.0 bytes = grind (arith, common_steps) in
         let run : is_run Whole (take number.0 bytes) ≡ true = sym (ap (is_run Whole) front) ∙ number.2 in
         let le : number.0 ≤ run_length Whole bytes = run_longest Whole number.0 bytes (omega arith) run in
-        let rest : drop number.0 (take j bytes) ≡ take (j - number.0) (drop number.0 bytes) = subst (λ (k : ℕ). drop number.0 (take k bytes) ≡ take (j - number.0) (drop number.0 bytes)) (omega arith) (behind_front number.0 (j - number.0) bytes) in
+        let rest : drop number.0 (take j bytes) ≡ take (j - number.0) (drop number.0 bytes) =
+        subst (λ (k : ℕ). drop number.0 (take k bytes) ≡ take (j - number.0) (drop number.0 bytes)) (omega arith)
+        (behind_front number.0 (j - number.0) bytes) in
         let read : is_fraction (take (j - number.0) (drop number.0 bytes)) ≡ true = sym (ap is_fraction rest) ∙ number.3 in
         omega (arith, fraction_longest number.0 (j - number.0) bytes (omega arith) (omega arith) read le)
 
@@ -129,13 +151,16 @@ whole_in_front n bytes fits le =
     let w = run_length Whole bytes in
     let front : take (run_length Whole bytes) (take n bytes) ≡ take (run_length Whole bytes) bytes = grind (arith, common_steps) in
     let length_is : length (take n bytes) ≡ n = length-take-le n bytes fits in
-    let at_least : run_length Whole bytes ≤ run_length Whole (take n bytes) = run_longest Whole (run_length Whole bytes) (take n bytes) (omega (arith, length_is)) (ap (is_run Whole) front ∙ run_is Whole bytes) in
+    let at_least : run_length Whole bytes ≤ run_length Whole (take n bytes) =
+    run_longest Whole (run_length Whole bytes) (take n bytes) (omega (arith, length_is)) (ap (is_run Whole) front ∙ run_is Whole bytes) in
     let within : run_length Whole (take n bytes) ≤ n = omega (arith, run_in_list Whole (take n bytes), length_is) in
     let back : take (run_length Whole (take n bytes)) (take n bytes) ≡ take (run_length Whole (take n bytes)) bytes = grind (arith, common_steps) in
-    let at_most : run_length Whole (take n bytes) ≤ run_length Whole bytes = run_longest Whole (run_length Whole (take n bytes)) bytes (omega arith) (sym (ap (is_run Whole) back) ∙ run_is Whole (take n bytes)) in
+    let at_most : run_length Whole (take n bytes) ≤ run_length Whole bytes =
+    run_longest Whole (run_length Whole (take n bytes)) bytes (omega arith) (sym (ap (is_run Whole) back) ∙ run_is Whole (take n bytes)) in
     omega (arith, at_least, at_most)
 
-pub number_read : (place : Place) (bytes : List ℕ) (n : ℕ) → begins_with is_ascii_digit bytes ≡ true → 0 < n → number_at place bytes ≡ Ok n → IsRead kinds.Number n bytes
+pub number_read : (place : Place) (bytes : List ℕ) (n : ℕ) → begins_with is_ascii_digit bytes ≡ true → 0 < n → number_at place bytes ≡ Ok n
+    → IsRead kinds.Number n bytes
 unfolding number_at
 number_read place bytes n digit some e =
     let w = run_length Whole bytes in
@@ -143,13 +168,24 @@ number_read place bytes n digit some e =
     let is = number_ok (begins_with spoils_number (drop m bytes) || leb (2 ^ 128) (value_of (take w bytes))) place m n e in
     let no = or_parts _ _ is.0 in
     let length_is : run_length Whole bytes + fraction_length (drop (run_length Whole bytes) bytes) ≡ n = is.1 in
-    let le : n ≤ length bytes = omega (arith, run_in_list Whole bytes, fraction_fits (drop (run_length Whole bytes) bytes), length-drop (run_length Whole bytes) bytes, length_is) in
+    let le : n ≤ length bytes =
+    omega (arith, run_in_list Whole bytes, fraction_fits (drop (run_length Whole bytes) bytes), length-drop (run_length Whole bytes) bytes, length_is) in
     let first : take (run_length Whole bytes) (take n bytes) ≡ take (run_length Whole bytes) bytes = grind (arith, common_steps) in
-    let second : drop (run_length Whole bytes) (take n bytes) ≡ take (fraction_length (drop (run_length Whole bytes) bytes)) (drop (run_length Whole bytes) bytes) = subst (λ (k : ℕ). drop (run_length Whole bytes) (take k bytes) ≡ take (fraction_length (drop (run_length Whole bytes) bytes)) (drop (run_length Whole bytes) bytes)) length_is (behind_front (run_length Whole bytes) (fraction_length (drop (run_length Whole bytes) bytes)) bytes) in
-    let value : whole_of (take n bytes) ≡ value_of (take (run_length Whole bytes) bytes) = ap (λ (k : ℕ). value_of (take k (take n bytes))) (whole_in_front n bytes le (omega arith)) ∙ ap value_of first in
+    let second : drop (run_length Whole bytes) (take n bytes)
+    ≡ take (fraction_length (drop (run_length Whole bytes) bytes)) (drop (run_length Whole bytes) bytes) =
+    subst (λ (k : ℕ). drop (run_length Whole bytes) (take k bytes)
+    ≡ take (fraction_length (drop (run_length Whole bytes) bytes)) (drop (run_length Whole bytes) bytes)) length_is
+    (behind_front (run_length Whole bytes) (fraction_length (drop (run_length Whole bytes) bytes)) bytes) in
+    let value : whole_of (take n bytes) ≡ value_of (take (run_length Whole bytes) bytes) =
+    ap (λ (k : ℕ). value_of (take k (take n bytes))) (whole_in_front n bytes le (omega arith)) ∙ ap value_of first in
     record {
       fits = le;
-      shaped = (run_length Whole bytes, begins_in_front is_ascii_digit n bytes some digit, ap (is_run Whole) first ∙ run_is Whole bytes, ap is_fraction second ∙ fraction_is (drop (run_length Whole bytes) bytes));
+      shaped = (
+        run_length Whole bytes,
+        begins_in_front is_ascii_digit n bytes some digit,
+        ap (is_run Whole) first ∙ run_is Whole bytes,
+        ap is_fraction second ∙ fraction_is (drop (run_length Whole bytes) bytes),
+      );
       within = subst (λ (v : ℕ). v < 2 ^ 128) (sym value) (leb-false (2 ^ 128) (value_of (take (run_length Whole bytes) bytes)) no.1);
       longest = longest_by kinds.Number n bytes le (λ j fits token. omega (arith, number_longest j bytes fits token, length_is));
       apart = subst (λ (k : ℕ). begins_with spoils_number (drop k bytes) ≡ false) length_is no.0;
@@ -170,7 +206,8 @@ abbrev pub IsFirst : List ℕ → ℕ → Type 0
 IsFirst bytes m = (0 < m) × (m ≤ length bytes) × (text_length (take m bytes) ≡ Some m)
 
 abbrev pub two_or : ℕ → List ℕ → Bool → Bool → Bool → Option ℕ
-two_or c rest mark double line = cond mark (cond double (option_map (λ n. n + 2) (text_length rest)) (Some 1)) (cond line None (option_map (λ n. n + 1) (text_length (c ∷ rest))))
+two_or c rest mark double line =
+    cond mark (cond double (option_map (λ n. n + 2) (text_length rest)) (Some 1)) (cond line None (option_map (λ n. n + 1) (text_length (c ∷ rest))))
 
 text_first_two : (b c : ℕ) (rest : List ℕ) (m : ℕ) (mark double line : Bool) → eqb b 34 ≡ mark → eqb c 34 ≡ double → eqb b 10 ≡ line
     → ((k : ℕ) → text_length rest ≡ Some k → IsFirst rest k) → ((k : ℕ) → text_length (c ∷ rest) ≡ Some k → IsFirst (c ∷ rest) k)
@@ -202,10 +239,12 @@ text_first (b ∷ []) m h = from_test (eqb b 34) refl h
     from_test : (v : Bool) → eqb b 34 ≡ v → cond {A = Option ℕ} v (Some 1) None ≡ Some m → IsFirst (b ∷ []) m
     from_test true e f = let is : 1 ≡ m = cc in subst (IsFirst (b ∷ [])) is (omega arith, omega arith, rw e refl)
     from_test false e f = absurd cc
-text_first (b ∷ c ∷ rest) m h = text_first_two b c rest m (eqb b 34) (eqb c 34) (eqb b 10) refl refl refl (λ k. text_first rest k) (λ k. text_first (c ∷ rest) k) h
+text_first (b ∷ c ∷ rest) m h =
+    text_first_two b c rest m (eqb b 34) (eqb c 34) (eqb b 10) refl refl refl (λ k. text_first rest k) (λ k. text_first (c ∷ rest) k) h
 
 text_longest_two : (b c : ℕ) (rest : List ℕ) (i m : ℕ) (mark double line : Bool) → eqb b 34 ≡ mark → eqb c 34 ≡ double → eqb b 10 ≡ line
-    → ((j k : ℕ) → text_length (take j rest) ≡ Some j → text_length rest ≡ Some k → j ≤ k) → ((j k : ℕ) → text_length (take j (c ∷ rest)) ≡ Some j → text_length (c ∷ rest) ≡ Some k → j ≤ k)
+    → ((j k : ℕ) → text_length (take j rest) ≡ Some j → text_length rest ≡ Some k → j ≤ k)
+    → ((j k : ℕ) → text_length (take j (c ∷ rest)) ≡ Some j → text_length (c ∷ rest) ≡ Some k → j ≤ k)
     → two_or c (take i rest) mark double line ≡ Some (suc (suc i)) → two_or c rest mark double line ≡ Some m → suc (suc i) ≤ m
 text_longest_two b c rest i m true true line e f g ih1 ih2 h l =
     let p = map_some (text_length (take i rest)) 2 (suc (suc i)) h in
@@ -232,7 +271,8 @@ text_longest (b ∷ []) (suc (suc i)) m h l = one (eqb b 34) h
     one : (v : Bool) → cond {A = Option ℕ} v (Some 1) None ≡ Some (suc (suc i)) → suc (suc i) ≤ m
     one true e = let no : 1 ≡ suc (suc i) = cc in absurd (omega (arith, no))
     one false e = absurd cc
-text_longest (b ∷ c ∷ rest) (suc (suc i)) m h l = text_longest_two b c rest i m (eqb b 34) (eqb c 34) (eqb b 10) refl refl refl (λ j k. text_longest rest j k) (λ j k. text_longest (c ∷ rest) j k) h l
+text_longest (b ∷ c ∷ rest) (suc (suc i)) m h l =
+    text_longest_two b c rest i m (eqb b 34) (eqb c 34) (eqb b 10) refl refl refl (λ j k. text_longest rest j k) (λ j k. text_longest (c ∷ rest) j k) h l
 
 -- no mark follows the one that ends a text
 abbrev IsEnded : List ℕ → ℕ → Type 0
@@ -260,11 +300,13 @@ text_ended (b ∷ []) m h = from_test (eqb b 34) h
     from_test false f = absurd cc
 text_ended (b ∷ c ∷ rest) m h = text_ended_two b c rest m (eqb b 34) (eqb c 34) (eqb b 10) refl (λ k. text_ended rest k) (λ k. text_ended (c ∷ rest) k) h
 
-closed_ok : (o : Option ℕ) (place : Place) (bytes : List ℕ) (n : ℕ) → closed_text o place bytes ≡ Ok n → (m : ℕ) × (o ≡ Some m) × (m + 1 ≡ n) × (position is_no_text (take (m + 1) bytes) ≡ None)
+closed_ok : (o : Option ℕ) (place : Place) (bytes : List ℕ) (n : ℕ) → closed_text o place bytes ≡ Ok n
+    → (m : ℕ) × (o ≡ Some m) × (m + 1 ≡ n) × (position is_no_text (take (m + 1) bytes) ≡ None)
 closed_ok None place bytes n e = absurd cc
 closed_ok (Some m) place bytes n e = let is = unless_bad_ok (position is_no_text (take (m + 1) bytes)) place (m + 1) n e in (m, refl, is.1, is.0)
 
-text_bound : (b : ℕ) (rest : List ℕ) (m n j : ℕ) → text_length rest ≡ Some m → n ≡ suc m → j ≤ length (b ∷ rest) → IsToken kinds.Text (take j (b ∷ rest)) → j ≤ n
+text_bound : (b : ℕ) (rest : List ℕ) (m n j : ℕ) → text_length rest ≡ Some m → n ≡ suc m → j ≤ length (b ∷ rest) → IsToken kinds.Text (take j (b ∷ rest))
+    → j ≤ n
 text_bound b rest m n zero l is fits token = omega arith
 text_bound b rest m n (suc j) l is fits token =
     let length_is : length (take j rest) ≡ j = length-take-le j rest (omega arith) in
@@ -337,7 +379,8 @@ no_comment (c ∷ rest) e = by_test (eqb c 45) refl e
     by_test false f g = f
     by_test true f g = absurd (omega (arith, g))
 
-minus_apart : (b : ℕ) (rest : List ℕ) (n : ℕ) → gap_length (b ∷ rest) ≡ 0 → 0 < n → n ≤ length (b ∷ rest) → take n (b ∷ rest) ≡ 45 ∷ [] → begins_with (λ b. eqb b 45) (drop n (b ∷ rest)) ≡ false
+minus_apart : (b : ℕ) (rest : List ℕ) (n : ℕ) → gap_length (b ∷ rest) ≡ 0 → 0 < n → n ≤ length (b ∷ rest) → take n (b ∷ rest) ≡ 45 ∷ []
+    → begins_with (λ b. eqb b 45) (drop n (b ∷ rest)) ≡ false
 minus_apart b rest zero gap pos fits e = absurd (omega arith)
 minus_apart b rest (suc zero) gap pos fits e =
     let is : b ≡ 45 = cc in
@@ -346,7 +389,8 @@ minus_apart b rest (suc (suc n)) gap pos fits e =
     let short : length (take (suc (suc n)) (b ∷ rest)) ≡ 1 = ap length e in
     absurd (omega (arith, short, length-take-le (suc (suc n)) (b ∷ rest) fits))
 
-pub delimiter_read : (place : Place) (b : ℕ) (rest : List ℕ) (n : ℕ) → gap_length (b ∷ rest) ≡ 0 → delimiter_unless (delimiter_length (b ∷ rest)) place ≡ Ok n → IsRead kinds.Delimiter n (b ∷ rest)
+pub delimiter_read : (place : Place) (b : ℕ) (rest : List ℕ) (n : ℕ) → gap_length (b ∷ rest) ≡ 0 → delimiter_unless (delimiter_length (b ∷ rest)) place ≡ Ok n
+    → IsRead kinds.Delimiter n (b ∷ rest)
 delimiter_read place b rest n gap e =
     let p = delimiter_some (delimiter_length (b ∷ rest)) place n e in
     let le : n ≤ length (b ∷ rest) = omega (arith, delimiter_fits (b ∷ rest), p.0) in
@@ -361,7 +405,8 @@ delimiter_read place b rest n gap e =
     }
 
 -- whatever the kind
-pub token_read : (letter digit mark : Bool) (place : Place) (b : ℕ) (rest : List ℕ) (n : ℕ) → is_ascii_alphabetic b ≡ letter → is_ascii_digit b ≡ digit → eqb b 34 ≡ mark → gap_length (b ∷ rest) ≡ 0 → 0 < n
+pub token_read : (letter digit mark : Bool) (place : Place) (b : ℕ) (rest : List ℕ) (n : ℕ) → is_ascii_alphabetic b ≡ letter → is_ascii_digit b ≡ digit
+    → eqb b 34 ≡ mark → gap_length (b ∷ rest) ≡ 0 → 0 < n
     → token_at (cond letter kinds.Word (cond digit kinds.Number (cond mark kinds.Text kinds.Delimiter))) place (b ∷ rest) ≡ Ok n
     → IsRead (cond letter kinds.Word (cond digit kinds.Number (cond mark kinds.Text kinds.Delimiter))) n (b ∷ rest)
 token_read true digit mark place b rest n l d m gap some e = word_read place (b ∷ rest) n l some e

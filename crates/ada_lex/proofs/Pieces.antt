@@ -1,5 +1,6 @@
 -- What a piece that is read looks like.
-use Rattle.std.proofs.Common.{◌≡◌, ℕ, zero, suc, ◌+◌, ◌<◌, Bool, true, false, cond, eqb, ◌||◌, List, [], ◌∷◌, length, get_or, drop, Option, Some, None, Result, Ok, refl, subst, arith}
+use Rattle.std.proofs.Common.{◌≡◌, ℕ, zero, suc, ◌+◌, ◌<◌, Bool, true, false, cond, eqb, ◌||◌, List, []}
+use Rattle.std.proofs.Common.{◌∷◌, length, get_or, drop, Option, Some, None, Result, Ok, refl, subst, arith}
 use Rattle.std.specs.Char.{is_ascii_digit, is_ascii_alphabetic, is_ascii_alphanumeric}
 use Rattle.std.proofs.lemmas.Bool.{or_left}
 use Rattle.ann_base.specs.declared.places.Place.{Place}
@@ -70,7 +71,8 @@ kind_some false false true place b rest n l d e = text_some place b rest n e
 kind_some false false false place b rest n l d e = (delimiter_some (delimiter_length (b ∷ rest)) place n e).1
 
 -- a token has a byte
-pub token_some : (place : Place) (kind : Kind) (bytes : List ℕ) (n : ℕ) → 0 < length bytes → kind ≡ kind_of (get_or bytes 0 0) → token_at kind place bytes ≡ Ok n → 0 < n
+pub token_some : (place : Place) (kind : Kind) (bytes : List ℕ) (n : ℕ) → 0 < length bytes → kind ≡ kind_of (get_or bytes 0 0)
+    → token_at kind place bytes ≡ Ok n → 0 < n
 token_some place kind [] n some is e = absurd (omega arith)
 token_some place kind (b ∷ rest) n some is e =
     kind_some (is_ascii_alphabetic b) (is_ascii_digit b) (eqb b 34) place b rest n refl refl (subst (λ (k : Kind). token_at k place (b ∷ rest) ≡ Ok n) is e)

@@ -2,7 +2,12 @@
 use Rattle.std.proofs.Common.{◌≡◌, ℕ, refl, get_or, ◌<◌, lit<, List, Option, Some, None, ap, ◌∙◌}
 use Rattle.std.specs.Prelude.{IfNone}
 use Rattle.ada_lex.specs.declared.words.Reserved.{Reserved}
-use Rattle.ada_lex.specs.declared.words.Reserved.TheVariants.{Abort, Abs, Abstract, Accept, Access, Aliased, All, And, Array, At, Begin, Body, Case, Constant, Declare, Delay, Delta, Digits, Do, Else, Elsif, End, Entry, Exception, Exit, For, Function, Generic, Goto, If, In, Interface, Is, Limited, Loop, Mod, New, Not, Null, Of, Or, Others, Out, Overriding, Package, Pragma, Private, Procedure, Protected, Raise, Range, Record, Rem, Renames, Requeue, Return, Reverse, Select, Separate, Some, Subtype, Synchronized, Tagged, Task, Terminate, Then, TypeWord, Until, Use, When, While, With, Xor}
+use Rattle.ada_lex.specs.declared.words.Reserved.TheVariants.{Abort, Abs, Abstract, Accept, Access, Aliased, All, And, Array, At, Begin, Body, Case}
+use Rattle.ada_lex.specs.declared.words.Reserved.TheVariants.{Constant, Declare, Delay, Delta, Digits, Do, Else, Elsif, End, Entry, Exception, Exit}
+use Rattle.ada_lex.specs.declared.words.Reserved.TheVariants.{For, Function, Generic, Goto, If, In, Interface, Is, Limited, Loop, Mod, New, Not, Null}
+use Rattle.ada_lex.specs.declared.words.Reserved.TheVariants.{Of, Or, Others, Out, Overriding, Package, Pragma, Private, Procedure, Protected, Raise}
+use Rattle.ada_lex.specs.declared.words.Reserved.TheVariants.{Range, Record, Rem, Renames, Requeue, Return, Reverse, Select, Separate, Some, Subtype}
+use Rattle.ada_lex.specs.declared.words.Reserved.TheVariants.{Synchronized, Tagged, Task, Terminate, Then, TypeWord, Until, Use, When, While, With, Xor}
 use Rattle.ada_lex.specs.declared.words.TheConstants.{ALL}
 use Rattle.ada_lex.specs.ReservedLetters.{word_letters}
 
@@ -231,6 +236,7 @@ at_place While = refl
 at_place With = refl
 at_place Xor = refl
 
-pub none_of : (o : Option Reserved) (low : List ℕ) → IfNone o ((k : ℕ) → k < 73 → word_letters (get_or ALL k Abort) ≡ low → ⊥) → IfNone o ((entry : Reserved) → word_letters entry ≡ low → ⊥)
+pub none_of : (o : Option Reserved) (low : List ℕ) → IfNone o ((k : ℕ) → k < 73 → word_letters (get_or ALL k Abort) ≡ low → ⊥)
+    → IfNone o ((entry : Reserved) → word_letters entry ≡ low → ⊥)
 none_of None low h = λ entry same. h (place_of entry) (place_in entry) (ap word_letters (at_place entry) ∙ same)
 none_of (Some e) low h = tt

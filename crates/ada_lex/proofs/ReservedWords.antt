@@ -18,12 +18,15 @@ none_false : (v : Bool) (P : Type 0) → (v ≡ true → P) → (P → v ≡ tru
 none_false true P f g never = absurd (never (f refl))
 none_false false P f g never = refl
 
-pub is_reserved-word : (found : Option Reserved) (word : List ℕ) → IfSome found (λ entry. word_letters entry ≡ map to_ascii_lowercase word) → IfNone found ((entry : Reserved) → word_letters entry ≡ map to_ascii_lowercase word → ⊥) → is_some found ≡ is_reserved word
+pub is_reserved-word : (found : Option Reserved) (word : List ℕ) → IfSome found (λ entry. word_letters entry ≡ map to_ascii_lowercase word)
+    → IfNone found ((entry : Reserved) → word_letters entry ≡ map to_ascii_lowercase word → ⊥) → is_some found ≡ is_reserved word
 unfolding is_reserved
 is_reserved-word (Some entry) word same none =
     let test = λ (e : Reserved). bytes_eq (word_letters e) (map to_ascii_lowercase word) in
-    let here : bytes_eq (word_letters entry) (map to_ascii_lowercase word) ≡ true = (bytes_eq-Decides (word_letters entry) (map to_ascii_lowercase word)).1 same in
-    let there : bytes_eq (word_letters (get_or ALL (place_of entry) Abort)) (map to_ascii_lowercase word) ≡ true = subst (λ (e : Reserved). bytes_eq (word_letters e) (map to_ascii_lowercase word) ≡ true) (sym (at_place entry)) here in
+    let here : bytes_eq (word_letters entry) (map to_ascii_lowercase word) ≡ true =
+    (bytes_eq-Decides (word_letters entry) (map to_ascii_lowercase word)).1 same in
+    let there : bytes_eq (word_letters (get_or ALL (place_of entry) Abort)) (map to_ascii_lowercase word) ≡ true =
+    subst (λ (e : Reserved). bytes_eq (word_letters e) (map to_ascii_lowercase word) ≡ true) (sym (at_place entry)) here in
     sym (list_any_at test ALL (place_of entry) Abort (place_in entry) there)
 is_reserved-word None word same none =
     let test = λ (e : Reserved). bytes_eq (word_letters e) (map to_ascii_lowercase word) in

@@ -25,7 +25,8 @@ and_more false q r h e = e
 
 joins_more : (test : ℕ → Bool) (k b : ℕ) (rest : List ℕ) → joins test (b ∷ take k rest) ≡ true → joins test (b ∷ rest) ≡ true
 joins_more test k b rest e =
-    or_more (test b) (eqb b 95 && begins_with test (take k rest)) (eqb b 95 && begins_with test rest) (λ h. and_more (eqb b 95) (begins_with test (take k rest)) (begins_with test rest) (begins_more test k rest) h) e
+    or_more (test b) (eqb b 95 && begins_with test (take k rest)) (eqb b 95 && begins_with test rest)
+    (λ h. and_more (eqb b 95) (begins_with test (take k rest)) (begins_with test rest) (begins_more test k rest) h) e
 
 goes_more : (run : Run) (k b : ℕ) (rest : List ℕ) → goes_on run (b ∷ take k rest) ≡ true → goes_on run (b ∷ rest) ≡ true
 goes_more Letters k b rest e = joins_more is_ascii_alphanumeric k b rest e
@@ -49,9 +50,11 @@ begins_kept test zero rest lt e = absurd (omega arith)
 begins_kept test (suc n) [] lt e = e
 begins_kept test (suc n) (c ∷ rest) lt e = e
 
-joins_kept : (test : ℕ → Bool) (n b : ℕ) (rest : List ℕ) → (begins_with test rest ≡ true → 0 < n) → joins test (b ∷ rest) ≡ true → joins test (b ∷ take n rest) ≡ true
+joins_kept : (test : ℕ → Bool) (n b : ℕ) (rest : List ℕ) → (begins_with test rest ≡ true → 0 < n) → joins test (b ∷ rest) ≡ true
+    → joins test (b ∷ take n rest) ≡ true
 joins_kept test n b rest some e =
-    or_more (test b) (eqb b 95 && begins_with test rest) (eqb b 95 && begins_with test (take n rest)) (λ h. and_more (eqb b 95) (begins_with test rest) (begins_with test (take n rest)) (λ f. begins_kept test n rest (some f) f) h) e
+    or_more (test b) (eqb b 95 && begins_with test rest) (eqb b 95 && begins_with test (take n rest))
+    (λ h. and_more (eqb b 95) (begins_with test rest) (begins_with test (take n rest)) (λ f. begins_kept test n rest (some f) f) h) e
 
 joins_some : (test : ℕ → Bool) (rest : List ℕ) → begins_with test rest ≡ true → joins test rest ≡ true
 joins_some test [] e = e
@@ -66,7 +69,8 @@ some_of Line [] e = absurd (false≢true e)
 some_of run (b ∷ rest) e = rw e (omega arith)
 
 goes_kept : (run : Run) (b : ℕ) (rest : List ℕ) → goes_on run (b ∷ rest) ≡ true → goes_on run (b ∷ take (run_length run rest) rest) ≡ true
-goes_kept Letters b rest e = joins_kept is_ascii_alphanumeric (run_length Letters rest) b rest (λ h. some_of Letters rest (joins_some is_ascii_alphanumeric rest h)) e
+goes_kept Letters b rest e =
+    joins_kept is_ascii_alphanumeric (run_length Letters rest) b rest (λ h. some_of Letters rest (joins_some is_ascii_alphanumeric rest h)) e
 goes_kept Whole b rest e = joins_kept is_ascii_digit (run_length Whole rest) b rest (λ h. some_of Whole rest (joins_some is_ascii_digit rest h)) e
 goes_kept Decimals b rest e = e
 goes_kept Line b rest e = e
@@ -77,8 +81,10 @@ unfolding is_run run_length
 run_is run [] = refl
 run_is run (b ∷ rest) = from_test (goes_on run (b ∷ rest)) refl (run_is run rest)
   where
-    from_test : (v : Bool) → goes_on run (b ∷ rest) ≡ v → is_run run (take (run_length run rest) rest) ≡ true → is_run run (take (cond v (suc (run_length run rest)) 0) (b ∷ rest)) ≡ true
-    from_test true e more = and_from (goes_on run (b ∷ take (run_length run rest) rest)) (is_run run (take (run_length run rest) rest)) (goes_kept run b rest e) more
+    from_test : (v : Bool) → goes_on run (b ∷ rest) ≡ v → is_run run (take (run_length run rest) rest) ≡ true
+        → is_run run (take (cond v (suc (run_length run rest)) 0) (b ∷ rest)) ≡ true
+    from_test true e more =
+        and_from (goes_on run (b ∷ take (run_length run rest) rest)) (is_run run (take (run_length run rest) rest)) (goes_kept run b rest e) more
     from_test false e more = refl
 
 -- a run ends where a byte does not go on
@@ -87,7 +93,10 @@ unfolding run_length
 run_stop run zero [] e = omega arith
 run_stop run zero (b ∷ rest) e = rw e (omega arith)
 run_stop run (suc k) [] e = omega arith
-run_stop run (suc k) (b ∷ rest) e = elim (goes_on run (b ∷ rest)) as (λ v. cond v (suc (run_length run rest)) 0 ≤ suc k) [ true ↦ omega (arith, run_stop run k rest e) | false ↦ omega arith ]
+run_stop run (suc k) (b ∷ rest) e = elim (goes_on run (b ∷ rest)) as (λ v. cond v (suc (run_length run rest)) 0 ≤ suc k) [
+  | true ↦ omega (arith, run_stop run k rest e)
+  | false ↦ omega arith
+]
 
 pub begins_in_front : (test : ℕ → Bool) (n : ℕ) (rest : List ℕ) → 0 < n → begins_with test rest ≡ true → begins_with test (take n rest) ≡ true
 begins_in_front test n rest lt e = begins_kept test n rest lt e

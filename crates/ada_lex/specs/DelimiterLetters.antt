@@ -1,7 +1,10 @@
 -- The bytes of a delimiter (2.2).
 use Rattle.std.specs.Prelude.{ℕ, List, codes}
 use Rattle.ada_lex.specs.declared.delimiters.Delimiter.{Delimiter}
-use Rattle.ada_lex.specs.declared.delimiters.Delimiter.TheVariants.{Arrow, Dots, Becomes, NotEqual, AtLeast, AtMost, Ampersand, Apostrophe, OpenBracket, CloseBracket, Asterisk, Plus, Comma, Minus, Point, Solidus, Colon, Semicolon, Less, Equal, Greater, Bar}
+use Rattle.ada_lex.specs.declared.delimiters.Delimiter.TheVariants.{Arrow, Dots, Becomes, NotEqual, AtLeast, AtMost}
+use Rattle.ada_lex.specs.declared.delimiters.Delimiter.TheVariants.{Ampersand, Apostrophe, OpenBracket, CloseBracket}
+use Rattle.ada_lex.specs.declared.delimiters.Delimiter.TheVariants.{Asterisk, Plus, Comma, Minus, Point, Solidus}
+use Rattle.ada_lex.specs.declared.delimiters.Delimiter.TheVariants.{Colon, Semicolon, Less, Equal, Greater, Bar}
 
 abbrev pub delimiter_letters : Delimiter → List ℕ
 delimiter_letters Arrow = codes "=>"

@@ -1,5 +1,7 @@
 -- Reading a source from left to right: its tokens, or the first fault (clause 2).
-use Rattle.std.specs.Prelude.{ℕ, zero, suc, ◌+◌, ◌-◌, ◌^◌, Bool, true, false, ◌&&◌, ◌||◌, ◌==◌, nat_lt, nat_le, min, if◌then◌else◌, List, [], ◌∷◌, ◌++◌, length, take, drop, Option, Some, None, Result, Ok, Err, position}
+use Rattle.std.specs.Prelude.{ℕ, zero, suc, ◌+◌, ◌-◌, ◌^◌, Bool, true, false, ◌&&◌, ◌||◌, ◌==◌}
+use Rattle.std.specs.Prelude.{nat_lt, nat_le, min, if◌then◌else◌, List, [], ◌∷◌, ◌++◌, length}
+use Rattle.std.specs.Prelude.{take, drop, Option, Some, None, Result, Ok, Err, position}
 use Rattle.ann_base.specs.Results.{◌>>=◌}
 use Rattle.std.specs.Char.{is_ascii_digit, is_ascii_alphabetic}
 use Rattle.ann_base.specs.declared.places.Place.{Place}
@@ -12,7 +14,8 @@ use Rattle.ada_lex.specs.declared.tokens.Kind.TheVariants as kinds
 use Rattle.ada_lex.specs.declared.tokens.Token.{Token}
 use Rattle.ada_lex.specs.declared.tokens.LexFault.{LexFault}
 use Rattle.ada_lex.specs.declared.tokens.LexFault.TheVariants as faults
-use Rattle.ada_lex.specs.Shapes.{begins_with, run_length, value_of, text_length, is_no_text, delimiter_length, gap_length}
+use Rattle.ada_lex.specs.Shapes.{begins_with, run_length, value_of, text_length}
+use Rattle.ada_lex.specs.Shapes.{is_no_text, delimiter_length, gap_length}
 
 -- the place so many bytes further on the same line
 abbrev pub place_on : Place → ℕ → Place

@@ -1,7 +1,16 @@
 -- The letters of a reserved word, in lower case (2.9).
 use Rattle.std.specs.Prelude.{ℕ, List, codes}
 use Rattle.ada_lex.specs.declared.words.Reserved.{Reserved}
-use Rattle.ada_lex.specs.declared.words.Reserved.TheVariants.{Abort, Abs, Abstract, Accept, Access, Aliased, All, And, Array, At, Begin, Body, Case, Constant, Declare, Delay, Delta, Digits, Do, Else, Elsif, End, Entry, Exception, Exit, For, Function, Generic, Goto, If, In, Interface, Is, Limited, Loop, Mod, New, Not, Null, Of, Or, Others, Out, Overriding, Package, Pragma, Private, Procedure, Protected, Raise, Range, Record, Rem, Renames, Requeue, Return, Reverse, Select, Separate, Some, Subtype, Synchronized, Tagged, Task, Terminate, Then, TypeWord, Until, Use, When, While, With, Xor}
+use Rattle.ada_lex.specs.declared.words.Reserved.TheVariants.{Abort, Abs, Abstract, Accept, Access, Aliased, All}
+use Rattle.ada_lex.specs.declared.words.Reserved.TheVariants.{And, Array, At, Begin, Body, Case, Constant, Declare}
+use Rattle.ada_lex.specs.declared.words.Reserved.TheVariants.{Delay, Delta, Digits, Do, Else, Elsif, End, Entry}
+use Rattle.ada_lex.specs.declared.words.Reserved.TheVariants.{Exception, Exit, For, Function, Generic, Goto, If, In}
+use Rattle.ada_lex.specs.declared.words.Reserved.TheVariants.{Interface, Is, Limited, Loop, Mod, New, Not, Null, Of}
+use Rattle.ada_lex.specs.declared.words.Reserved.TheVariants.{Or, Others, Out, Overriding, Package, Pragma, Private}
+use Rattle.ada_lex.specs.declared.words.Reserved.TheVariants.{Procedure, Protected, Raise, Range, Record, Rem}
+use Rattle.ada_lex.specs.declared.words.Reserved.TheVariants.{Renames, Requeue, Return, Reverse, Select, Separate}
+use Rattle.ada_lex.specs.declared.words.Reserved.TheVariants.{Some, Subtype, Synchronized, Tagged, Task, Terminate}
+use Rattle.ada_lex.specs.declared.words.Reserved.TheVariants.{Then, TypeWord, Until, Use, When, While, With, Xor}
 
 abbrev pub word_letters : Reserved → List ℕ
 word_letters Abort = codes "abort"

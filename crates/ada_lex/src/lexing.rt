@@ -50,7 +50,8 @@ fn tokens_of(alloc: Global, source: &[u8]) -> Result<Vec<Token>, OrMemory<LexFau
 pub fn lex(alloc: Global, source: &[u8]) -> Result<Vec<Token>, OrMemory<LexFault>>
     // What it answers are the tokens of the source, each at its place.
     ensures found { IfOk result (λ v. Lexed source.now v.items) }
-    // No other tokens are those of the source, and where there are some it answers them, unless memory runs out.
+    // No other tokens are those of the source, and where there are some it answers them, unless
+    // memory runs out.
     ensures only { (tokens : List Token) → Lexed source.now tokens
         → AnswersAs (λ v. v.items) result (Ok tokens) }
     // A fault is the first one from left to right; the length is asked before all.

@@ -1,7 +1,8 @@
 //! The words, numbers, texts and delimiters of an Ada source (ISO/IEC 8652:2012, clause 2).
 //!
-//! `lex` cuts a source into its tokens, each with its place, or tells the first fault. A token keeps where its
-//! bytes lie; `spelling` gives them, and the functions beside it say what they mean.
+//! `lex` cuts a source into its tokens, each with its place, or tells the first fault. A token
+//! keeps where its bytes lie; `spelling` gives them, and the functions beside it say what they
+//! mean.
 #![tactic(auto)]
 
 mod delimiters;

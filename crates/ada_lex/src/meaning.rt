@@ -31,7 +31,8 @@ pub fn lower_case(alloc: Global, word: &[u8]) -> Result<Vec<u8>, NoMemory>
     Ok(word.iter().map(|b| b.to_ascii_lowercase()).collect(alloc)?)
 }
 
-/// The value of a number's whole part; None where it is 2 to the power of 128 or more, which no token's is.
+/// The value of a number's whole part; None where it is 2 to the power of 128 or more, which no
+/// token's is.
 pub fn whole_value(number: &[u8]) -> Option<u128>
     ensures { SomeIff result (whole_of number.now < 2 ^ 128) (whole_of number.now) }
 {

@@ -1,11 +1,16 @@
 //! How far the token, the separators or the comment at the front of some bytes reach.
-ghost use Rattle.std.specs.Prelude.{◌≡◌, ◌+◌, ◌-◌, ◌^◌, ◌<◌, ◌≤◌, ◌*◌, take, drop, length, position, true, option_to_list, IfSome, IfOk};
+ghost use Rattle.std.specs.Prelude.{◌≡◌, ◌+◌, ◌-◌, ◌^◌, ◌<◌, ◌≤◌, ◌*◌, take, drop};
+ghost use Rattle.std.specs.Prelude.{length, position, true, option_to_list, IfSome, IfOk};
 ghost use Rattle.std.specs.Option.{SomeIff};
 ghost use Rattle.std.specs.Result.{result_map_both};
 ghost use Rattle.ada_lex.specs.declared.lexing.TheConstants.{MAX_SOURCE};
 ghost use Rattle.ada_lex.specs.declared.scan.TheConstants.{MAX_WORD};
-ghost use Rattle.ada_lex.specs.Shapes.{begins_with, goes_on, run_length, value_of, text_length, is_no_text, is_delimiter, is_double_delimiter, is_separator, delimiter_length, gap_length};
-ghost use Rattle.ada_lex.specs.Reading.{behind, behind_all, spoils_number, fraction_length, fault_in_word, kind_of, word_at, number_at, text_at, token_at, piece_at};
+ghost use Rattle.ada_lex.specs.Shapes.{begins_with, goes_on, run_length, value_of, text_length};
+ghost use Rattle.ada_lex.specs.Shapes.{is_no_text, is_delimiter, is_double_delimiter};
+ghost use Rattle.ada_lex.specs.Shapes.{is_separator, delimiter_length, gap_length};
+ghost use Rattle.ada_lex.specs.Reading.{behind, behind_all, spoils_number};
+ghost use Rattle.ada_lex.specs.Reading.{fraction_length, fault_in_word, kind_of};
+ghost use Rattle.ada_lex.specs.Reading.{word_at, number_at, text_at, token_at, piece_at};
 
 use crate::tokens::{Kind, LexFault, Token};
 use ann_base::Place;
@@ -95,8 +100,8 @@ fn is_double_delimiter(a: u8, b: u8) -> bool
     }
 }
 
-/// How many bytes of separators or of a comment stand at the front: a separator by itself, a comment up to the
-/// end of its line, 0 where neither stands there (2.2, 2.7).
+/// How many bytes of separators or of a comment stand at the front: a separator by itself, a
+/// comment up to the end of its line, 0 where neither stands there (2.2, 2.7).
 pub(crate) fn gap_length(bytes: &[u8]) -> usize
     ensures length { result ≡ gap_length bytes.now }
     ensures within { result ≤ length bytes.now }

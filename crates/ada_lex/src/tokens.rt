@@ -15,7 +15,8 @@ pub enum Kind {
     Delimiter,
 }
 
-/// A token: its kind, the bytes `first .. end` of the source that spell it, and the place of its first byte.
+/// A token: its kind, the bytes `first .. end` of the source that spell it, and the place of its
+/// first byte.
 #[derive(Clone, Copy, PartialEq, Eq)]
 pub struct Token {
     pub kind: Kind,

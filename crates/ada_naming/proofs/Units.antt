@@ -13,7 +13,13 @@ behind_part : (u : Option PredefinedUnit) (i : Identifier) (rest : List Identifi
 behind_part None i rest = behind_none rest
 behind_part (Some u) i rest = refl
 
-pub part_further : (parts : List Identifier) (i : ℕ) (x : Identifier) (found : Option PredefinedUnit) (child : Option PredefinedUnit) (all : Option PredefinedUnit) → i < length parts → x ≡ get_or parts i x → child ≡ unit_behind found (x ∷ []) → unit_behind found (drop i parts) ≡ all → unit_behind child (drop (i + 1) parts) ≡ all
+pub part_further : (parts : List Identifier) (i : ℕ) (x : Identifier) (found : Option PredefinedUnit) (child : Option PredefinedUnit)
+    (all : Option PredefinedUnit)
+    → i < length parts
+    → x ≡ get_or parts i x
+    → child ≡ unit_behind found (x ∷ [])
+    → unit_behind found (drop i parts) ≡ all
+    → unit_behind child (drop (i + 1) parts) ≡ all
 part_further parts i x found child all l is c h =
     let one : i + 1 ≡ suc i = omega arith in
     let front : drop i parts ≡ x ∷ drop (suc i) parts = drop-cons parts i x l ∙ ap (λ y. y ∷ drop (suc i) parts) (sym is) in

@@ -1,6 +1,9 @@
 //! The regions that begin with each construct (ISO/IEC 8652:2012, 8.1).
 ghost use Rattle.std.specs.Prelude.{◌≡◌, None, Some, OnOk};
-ghost use Rattle.ada_regions.specs.Occurrences.{the_context, the_context_of, further_context, package_region, package_body, main_body, a_profile, subprogram_body, a_unit, task_body, protected_body, entry_body, an_accept, a_block, a_loop, a_record};
+ghost use Rattle.ada_regions.specs.Occurrences.{the_context, the_context_of, further_context};
+ghost use Rattle.ada_regions.specs.Occurrences.{package_region, package_body, main_body, a_profile};
+ghost use Rattle.ada_regions.specs.Occurrences.{subprogram_body, a_unit, task_body, protected_body};
+ghost use Rattle.ada_regions.specs.Occurrences.{entry_body, an_accept, a_block, a_loop, a_record};
 ghost use Rattle.ada_regions.specs.Regions.{begun};
 
 use crate::constructs::{accept_begun, loop_begun, record_begun, unit_begun};

@@ -2,7 +2,9 @@
 ghost use Rattle.std.specs.Prelude.{◌≡◌, ◌++◌, ◌∷◌, [], OnOk, option_map};
 ghost use Rattle.ada_regions.specs.Words.{and_then};
 ghost use Rattle.ada_regions.specs.Names.{region_here};
-ghost use Rattle.ada_regions.specs.Regions.{package_named, unit_behind, unit_named, unit_to_with, package_to_with, library_unit, withed, is_used_package, used_if, used};
+ghost use Rattle.ada_regions.specs.Regions.{package_named, unit_behind, unit_named};
+ghost use Rattle.ada_regions.specs.Regions.{unit_to_with, package_to_with, library_unit};
+ghost use Rattle.ada_regions.specs.Regions.{withed, is_used_package, used_if, used};
 
 use crate::packages::package_named;
 use ada_entities::{denoted_by, is_used_package, last_part, noted, region_here};

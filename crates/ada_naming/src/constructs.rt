@@ -1,10 +1,12 @@
-//! Task and protected units, the components of controlled types, accepts, blocks and loops (ISO/IEC 8652:2012, 3.9.1, 5.5, 5.6,
-//! 9.1, 9.4, 9.5.2).
+//! Task and protected units, the components of controlled types, accepts, blocks and loops (ISO/IEC
+//! 8652:2012, 3.9.1, 5.5, 5.6, 9.1, 9.4, 9.5.2).
 ghost use Rattle.std.specs.Prelude.{◌≡◌, true, false, option_map, IfOk, OnOk};
 ghost use Rattle.ada_regions.specs.Words.{and_then};
 ghost use Rattle.ada_regions.specs.Names.{kind_at, region_of_entity};
 ghost use Rattle.ada_regions.specs.Declaring.{type_of_kind};
-ghost use Rattle.ada_regions.specs.Regions.{unit_frame, record_frame, opened_if, unit_begun, record_begun, accept_frame, loop_frame, opened_new, with_scope, next_scope};
+ghost use Rattle.ada_regions.specs.Regions.{unit_frame, record_frame, opened_if};
+ghost use Rattle.ada_regions.specs.Regions.{unit_begun, record_begun, accept_frame};
+ghost use Rattle.ada_regions.specs.Regions.{loop_frame, opened_new, with_scope, next_scope};
 
 use crate::frames::{next_scope, opened_new, with_scope};
 use ada_completions::{components_of, type_of_entity};

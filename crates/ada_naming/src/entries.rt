@@ -4,7 +4,8 @@ ghost use Rattle.profile_image.specs.Words.{edit_at};
 ghost use Rattle.ada_regions.specs.Words.{and_then};
 ghost use Rattle.ada_regions.specs.Names.{kind_at};
 ghost use Rattle.ada_regions.specs.Completions.{holds_of};
-ghost use Rattle.ada_regions.specs.Regions.{is_entry, entry_owner, entry_number, with_entry_body, entry_body_numbered, entry_body_begun};
+ghost use Rattle.ada_regions.specs.Regions.{is_entry, entry_owner, entry_number, with_entry_body};
+ghost use Rattle.ada_regions.specs.Regions.{entry_body_numbered, entry_body_begun};
 
 use crate::frames::scope_begun;
 use ada_declarations::number;

@@ -1,6 +1,7 @@
 //! Regions that begin, and their scopes (ISO/IEC 8652:2012, 8.1).
 ghost use Rattle.std.specs.Prelude.{◌≡◌, IfOk, OnOk};
-ghost use Rattle.ada_regions.specs.Regions.{opened_new, with_scope, next_scope, frame_with_scope, scope_begun, made_private, named_as};
+ghost use Rattle.ada_regions.specs.Regions.{opened_new, with_scope, next_scope, frame_with_scope};
+ghost use Rattle.ada_regions.specs.Regions.{scope_begun, made_private, named_as};
 
 use ada_completions::take_innermost;
 use ada_declarations::{number, with_region};

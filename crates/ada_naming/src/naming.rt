@@ -1,9 +1,11 @@
-//! The table of a source, and the first of its names that has no declaration, two, or an unclear one.
+//! The table of a source, and the first of its names that has no declaration, two, or an unclear
+//! one.
 ghost use Rattle.std.specs.Prelude.{◌≡◌, IfOk, OnOk, map};
 ghost use Rattle.ada_regions.specs.Occurrences.{a_subprogram};
 ghost use Rattle.ada_regions.specs.Declaring.{library_frame, declared};
 ghost use Rattle.ada_regions.specs.Regions.{ended, library_unit, withed};
-ghost use Rattle.ada_regions.specs.Numbered.{last_priority_of, nothing_known, behind, behind_all, names_of, name_fault_of};
+ghost use Rattle.ada_regions.specs.Numbered.{last_priority_of, nothing_known, behind};
+ghost use Rattle.ada_regions.specs.Numbered.{behind_all, names_of, name_fault_of};
 ghost use Rattle.ada_regions.specs.Shown.{occurrence_shown};
 
 use crate::beginnings::{

@@ -1,8 +1,11 @@
-//! Library packages: a package's body has the region and the context of its declaration (ISO/IEC 8652:2012, 7.1, 7.2, 10.1).
+//! Library packages: a package's body has the region and the context of its declaration (ISO/IEC
+//! 8652:2012, 7.1, 7.2, 10.1).
 ghost use Rattle.std.specs.Prelude.{◌≡◌, [], None, IfOk, OnOk, eqb, find, option_copied};
 ghost use Rattle.ada_regions.specs.Words.{and_then};
 ghost use Rattle.ada_regions.specs.Completions.{body_apart};
-ghost use Rattle.ada_regions.specs.Regions.{package_if, package_named, context_of_package, context_again, frame_of_package, with_context, package_opened, package_begun, package_body_begun};
+ghost use Rattle.ada_regions.specs.Regions.{package_if, package_named, context_of_package};
+ghost use Rattle.ada_regions.specs.Regions.{context_again, frame_of_package, with_context};
+ghost use Rattle.ada_regions.specs.Regions.{package_opened, package_begun, package_body_begun};
 
 use crate::frames::opened_new;
 use ada_completions::{body_apart, entity_bound};

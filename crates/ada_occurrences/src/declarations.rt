@@ -1,6 +1,7 @@
 //! The names in bodies and declarations (ISO/IEC 8652:2012, clauses 3, 6, 9, 11).
 ghost use Rattle.std.specs.Prelude.{◌≡◌, ◌++◌, OnOk};
-ghost use Rattle.ada_regions.specs.NamesInDeclarations.{names_in_subprogram_body, names_in_entry_body};
+ghost use Rattle.ada_regions.specs.NamesInDeclarations.{names_in_subprogram_body};
+ghost use Rattle.ada_regions.specs.NamesInDeclarations.{names_in_entry_body};
 
 use crate::statements::tell_body;
 use crate::telling::{TellNested, TellSequence, tell_region};

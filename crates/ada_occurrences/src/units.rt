@@ -1,6 +1,8 @@
 //! The names in sequences, library units and a source (ISO/IEC 8652:2012, 3.11, 7.1, 7.2, 10.1).
 ghost use Rattle.std.specs.Prelude.{◌≡◌, ◌++◌, OnOk, IfOk};
-ghost use Rattle.ada_regions.specs.NamesInUnits.{names_in_package_declaration, names_in_package_body, names_in_main, names_in_parts, names_in_unit};
+ghost use Rattle.ada_regions.specs.NamesInUnits.{names_in_package_declaration};
+ghost use Rattle.ada_regions.specs.NamesInUnits.{names_in_package_body, names_in_main};
+ghost use Rattle.ada_regions.specs.NamesInUnits.{names_in_parts, names_in_unit};
 
 use crate::statements::tell_optional_body;
 use crate::telling::{Part, TellNested, TellSequence, tell_private, tell_region};

@@ -8,7 +8,10 @@ ghost use Rattle.ada_tree.specs.Spelling.{SpellsTokens};
 ghost use Rattle.ada_tree.specs.Shape.{is_shaped};
 ghost use Rattle.ada_grammar.specs.Reads.{Reads};
 ghost use Rattle.grammar_laws.specs.FaultLaws.{NoneGoesOn};
-ghost use Rattle.ada_grammar.specs.ReadingUnits.{finished, main_of, package_body_of, package_declaration_of, package_of, package_statements_of, packages_of, placed_fault, pragma_of, private_part_of, source_of, unit_of};
+ghost use Rattle.ada_grammar.specs.ReadingUnits.{finished, main_of, package_body_of};
+ghost use Rattle.ada_grammar.specs.ReadingUnits.{package_declaration_of, package_of};
+ghost use Rattle.ada_grammar.specs.ReadingUnits.{package_statements_of, packages_of, placed_fault};
+ghost use Rattle.ada_grammar.specs.ReadingUnits.{pragma_of, private_part_of, source_of, unit_of};
 
 use ada_clauses::{aspects, context_clauses};
 use ada_expressions::{argument, items, separated};
@@ -25,18 +28,20 @@ use grammar_laws::{no_tree_goes_deeper, no_tree_goes_on, read_is_spelt, spelt_is
 use sqlite_items::Items;
 use std::alloc::Global;
 
-/// The tree that the tokens of a source spell (10.1), or the first token with which reading cannot go on, or the one
-/// that opens nesting 101. `tokens` are those that `lex` answers for the source.
+/// The tree that the tokens of a source spell (10.1), or the first token with which reading cannot
+/// go on, or the one that opens nesting 101. `tokens` are those that `lex` answers for the source.
 pub fn parse(alloc: Global, source: &[u8], tokens: &[Token]) -> Result<Unit, OrMemory<ParseFault>>
     requires tokens { AreTokensOf source.now tokens.now }
     requires count { length tokens.now ≤ MAX_SOURCE }
     // The tree spells the tokens, and is shaped.
     ensures found { IfOk result (λ unit. SpellsTokens unit (lexemes_of source.now tokens.now)) }
     ensures shaped { IfOk result (λ unit. is_shaped unit ≡ true) }
-    // Any shaped tree that spells the tokens is the answer, unless memory runs out; so it is refused only where there is none.
+    // Any shaped tree that spells the tokens is the answer, unless memory runs out; so it is
+    // refused only where there is none.
     ensures only { (unit : Tree) → SpellsTokens unit (lexemes_of source.now tokens.now)
         → is_shaped unit ≡ true → Answers result (Ok unit) }
-    // Otherwise the fault is at the first token with which the reading from left to right cannot go on.
+    // Otherwise the fault is at the first token with which the reading from left to right cannot go
+    // on.
     ensures exact { Answers result (unit_of (lexemes_of source.now tokens.now)) }
     // No shaped tree begins with the tokens up to that of the fault, itself counted.
     ensures place { IfErr result (OfFault (NoneGoesOn (lexemes_of source.now tokens.now))) }

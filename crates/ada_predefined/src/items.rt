@@ -1,7 +1,20 @@
 //! What the predefined units declare (ISO/IEC 8652:2012, annex A, C.7.1, annex D).
 ghost use Rattle.std.specs.Prelude.{◌≡◌, suc, pos};
 ghost use Rattle.ada_regions.specs.Words.{entry_named};
-ghost use Rattle.ada_regions.specs.PredefinedUnits.{item_in, free, integers, whole_integer, whole_boolean, whole_duration, default_priority, declared_in_standard, declared_in_system, declared_in_text_io, declared_in_real_time, declared_in_timing_events, declared_in_execution_time, declared_in_timers, declared_in_group_budgets, declared_in_dynamic_priorities, declared_in_task_identification, declared_in_dispatching, declared_in_round_robin, declared_in_edf, declared_in_finalization, declared_in_script_ports};
+ghost use Rattle.ada_regions.specs.PredefinedUnits.{item_in, free, integers, whole_integer};
+ghost use Rattle.ada_regions.specs.PredefinedUnits.{whole_boolean, whole_duration};
+ghost use Rattle.ada_regions.specs.PredefinedUnits.{default_priority, declared_in_standard};
+ghost use Rattle.ada_regions.specs.PredefinedUnits.{declared_in_system, declared_in_text_io};
+ghost use Rattle.ada_regions.specs.PredefinedUnits.{declared_in_real_time};
+ghost use Rattle.ada_regions.specs.PredefinedUnits.{declared_in_timing_events};
+ghost use Rattle.ada_regions.specs.PredefinedUnits.{declared_in_execution_time};
+ghost use Rattle.ada_regions.specs.PredefinedUnits.{declared_in_timers, declared_in_group_budgets};
+ghost use Rattle.ada_regions.specs.PredefinedUnits.{declared_in_dynamic_priorities};
+ghost use Rattle.ada_regions.specs.PredefinedUnits.{declared_in_task_identification};
+ghost use Rattle.ada_regions.specs.PredefinedUnits.{declared_in_dispatching};
+ghost use Rattle.ada_regions.specs.PredefinedUnits.{declared_in_round_robin, declared_in_edf};
+ghost use Rattle.ada_regions.specs.PredefinedUnits.{declared_in_finalization};
+ghost use Rattle.ada_regions.specs.PredefinedUnits.{declared_in_script_ports};
 
 use crate::priorities::default_priority;
 use ada_regions::{AdaType, Operation, Predefined, PredefinedUnit, Subtype};

@@ -1,5 +1,5 @@
-//! The predefined units and what they declare (ISO/IEC 8652:2012, annex A, C.7.1, annex D), by name, and the last and
-//! the default priority of a source.
+//! The predefined units and what they declare (ISO/IEC 8652:2012, annex A, C.7.1, annex D), by
+//! name, and the last and the default priority of a source.
 #![tactic(auto)]
 
 mod items;

@@ -1,6 +1,7 @@
 //! Which predefined units there are, and which stand in which (ISO/IEC 8652:2012, 10.1.1).
 ghost use Rattle.std.specs.Prelude.{◌≡◌};
-ghost use Rattle.ada_regions.specs.PredefinedUnits.{unit_number, same_unit, child_unit, root_unit, parent_unit};
+ghost use Rattle.ada_regions.specs.PredefinedUnits.{unit_number, same_unit, child_unit};
+ghost use Rattle.ada_regions.specs.PredefinedUnits.{root_unit, parent_unit};
 
 use ada_regions::PredefinedUnit;
 

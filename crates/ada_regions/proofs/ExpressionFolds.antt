@@ -13,11 +13,13 @@ pub both : {a b c d : Occurrences} → a ≡ c → b ≡ d → a ++ b ≡ c ++ d
 both p q = rw (p, q) refl
 
 -- each item of a list that was mapped
-pub flat_of_map : {X Y : Type 0} (w : Y → Occurrences) (g : X → Y) (v : X → Occurrences) (same : (x : X) → w (g x) ≡ v x) (xs : List X) → flat_map w (map g xs) ≡ flat_map v xs
+pub flat_of_map : {X Y : Type 0} (w : Y → Occurrences) (g : X → Y) (v : X → Occurrences) (same : (x : X) → w (g x) ≡ v x) (xs : List X)
+    → flat_map w (map g xs) ≡ flat_map v xs
 flat_of_map w g v same [] = refl
 flat_of_map w g v same (x ∷ xs) = rw (same x, flat_of_map w g v same xs) refl
 
-form_of_map : (w : Expression → Occurrences) (x : ExpressionForm Expression) → names_in_form same_names (map-Expression Expression Occurrences w (record { form = x })).form ≡ names_in_form w x
+form_of_map : (w : Expression → Occurrences) (x : ExpressionForm Expression)
+    → names_in_form same_names (map-Expression Expression Occurrences w (record { form = x })).form ≡ names_in_form w x
 form_of_map w (form.Logical operator first others) = rw (flat_of_map _ _ _ (λ x. refl) others.others) refl
 form_of_map w (form.Relational left place operator right) = refl
 form_of_map w (form.Adding first others) = rw (flat_of_map _ _ _ (λ x. refl) others.others) refl

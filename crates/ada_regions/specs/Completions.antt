@@ -1,6 +1,7 @@
 -- Completions (3.11.1): the body of a declared subprogram, and those of task and protected units. A body that completes
 -- nothing is a declaration itself (6.3), or stands alone, which is a matter of legality.
-use Rattle.std.specs.Prelude.{ℕ, Bool, true, false, cond, ◌&&◌, ◌||◌, List, [], ◌∷◌, Option, Some, None, is_some, map, eqb, suc}
+use Rattle.std.specs.Prelude.{ℕ, Bool, true, false, cond, ◌&&◌, ◌||◌, List, []}
+use Rattle.std.specs.Prelude.{◌∷◌, Option, Some, None, is_some, map, eqb, suc}
 use Rattle.std.specs.List.{list_any, filter}
 use Rattle.ada_tree.specs.declared.names.Identifier.{Identifier}
 use Rattle.ada_tree.specs.declared.declarations.SubprogramSpecification.{SubprogramSpecification}
@@ -25,7 +26,8 @@ use Rattle.ada_regions.specs.declared.table.Names.{Names}
 use Rattle.ada_regions.specs.declared.table.Binding.{Binding}
 use Rattle.ada_regions.specs.declared.table.Frame.{Frame}
 use Rattle.ada_regions.specs.declared.table.Enclosure.{Enclosure}
-use Rattle.ada_regions.specs.Names.{binding_in, innermost_frame, enclosure_of, region_here, opened, scope_in, kind_at, region_of_entity, entity_denoted, noted}
+use Rattle.ada_regions.specs.Names.{binding_in, innermost_frame, enclosure_of, region_here, opened}
+use Rattle.ada_regions.specs.Names.{scope_in, kind_at, region_of_entity, entity_denoted, noted}
 use Rattle.ada_regions.specs.Subtypes.{formals_of}
 use Rattle.ada_regions.specs.Visibility.{resolved}
 use Rattle.ada_regions.specs.Declaring.{hidden, subprogram_declared, type_of_kind}

@@ -1,5 +1,6 @@
 -- Declarations (3.1, 8.1, 8.3): what a declaration binds in its region, and what entity it declares.
-use Rattle.std.specs.Prelude.{ℕ, suc, ◌-◌, Bool, true, false, cond, ◌||◌, List, [], ◌∷◌, ◌++◌, Option, Some, None, is_some, length, map, option_map, unwrap_or, slice_get, position}
+use Rattle.std.specs.Prelude.{ℕ, suc, ◌-◌, Bool, true, false, cond, ◌||◌, List, [], ◌∷◌, ◌++◌, Option}
+use Rattle.std.specs.Prelude.{Some, None, is_some, length, map, option_map, unwrap_or, slice_get, position}
 use Rattle.std.specs.Str.{bytes_eq}
 use Rattle.ann_base.specs.declared.places.Place.{Place}
 use Rattle.ada_tree.specs.declared.names.Identifier.{Identifier}
@@ -33,7 +34,10 @@ use Rattle.ada_regions.specs.declared.entities.ComponentOwner.{ComponentOwner}
 use Rattle.ada_regions.specs.declared.entities.ComponentOwner.TheVariants as owner
 use Rattle.ada_regions.specs.declared.faults.NameFault.TheVariants as fault
 use Rattle.ada_regions.specs.Words.{and_then, all_of}
-use Rattle.ada_regions.specs.Occurrences.{Declared, the_package, the_main_procedure, an_object, a_component, a_parameter, a_loop_parameter, an_enumeration, a_literal, an_array, a_derived_type, a_subtype, an_exception, a_label, a_subprogram, an_entry, a_task, a_protected}
+use Rattle.ada_regions.specs.Occurrences.{Declared, the_package, the_main_procedure, an_object}
+use Rattle.ada_regions.specs.Occurrences.{a_component, a_parameter, a_loop_parameter, an_enumeration}
+use Rattle.ada_regions.specs.Occurrences.{a_literal, an_array, a_derived_type, a_subtype, an_exception}
+use Rattle.ada_regions.specs.Occurrences.{a_label, a_subprogram, an_entry, a_task, a_protected}
 use Rattle.ada_regions.specs.declared.table.Names.{Names}
 use Rattle.ada_regions.specs.declared.table.Frame.{Frame}
 use Rattle.ada_regions.specs.declared.table.Enclosure.{Enclosure}
@@ -45,7 +49,9 @@ use Rattle.ada_regions.specs.declared.table.NumberedProtected.{NumberedProtected
 use Rattle.ada_regions.specs.declared.table.NumberedControlled.{NumberedControlled}
 use Rattle.ada_regions.specs.declared.table.NumberedEntry.{NumberedEntry}
 use Rattle.ada_regions.specs.declared.table.Sort.TheVariants as sort
-use Rattle.ada_regions.specs.Names.{denoted_by, entity_of, binding_in, bound_in, innermost_frame, enclosure_of, enclosure_here, region_here, scope_in, scope_of_loops, expanded, kind_at, noted, told}
+use Rattle.ada_regions.specs.Names.{denoted_by, entity_of, binding_in, bound_in}
+use Rattle.ada_regions.specs.Names.{innermost_frame, enclosure_of, enclosure_here, region_here}
+use Rattle.ada_regions.specs.Names.{scope_in, scope_of_loops, expanded, kind_at, noted, told}
 use Rattle.ada_regions.specs.Statics.{static_value, subtype_of_kind}
 use Rattle.ada_regions.specs.Subtypes.{indicated_subtype, mark_denoted, array_type, formals_of, mode_of}
 use Rattle.ada_regions.specs.Visibility.{in_standard, bound}

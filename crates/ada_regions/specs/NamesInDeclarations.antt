@@ -23,7 +23,12 @@ use Rattle.ada_tree.specs.declared.declarations.ProtectedOperation.TheVariants a
 use Rattle.ada_tree.specs.declared.declarations.ProtectedBody.{ProtectedBody}
 use Rattle.ada_tree.specs.declared.declarations.OperationBody.{OperationBody}
 use Rattle.ada_tree.specs.declared.declarations.OperationBody.TheVariants as body_of
-use Rattle.ada_regions.specs.Occurrences.{Occurrences, SequenceNames, an_object, a_component, an_enumeration, a_literal, an_array, a_derived_type, a_subtype, an_exception, a_subprogram, an_entry, a_task, a_protected, a_profile, subprogram_body, a_unit, task_body, protected_body, entry_body, a_record, private_from_here, hides, heads, declares, completes, is_called, mentions, mentions_entry, use_package, in_all, if_there, one, within_region, hides_all, declares_all, in_body}
+use Rattle.ada_regions.specs.Occurrences.{Occurrences, SequenceNames, an_object, a_component, an_enumeration}
+use Rattle.ada_regions.specs.Occurrences.{a_literal, an_array, a_derived_type, a_subtype, an_exception, a_subprogram}
+use Rattle.ada_regions.specs.Occurrences.{an_entry, a_task, a_protected, a_profile, subprogram_body, a_unit, task_body}
+use Rattle.ada_regions.specs.Occurrences.{protected_body, entry_body, a_record, private_from_here, hides, heads}
+use Rattle.ada_regions.specs.Occurrences.{declares, completes, is_called, mentions, mentions_entry, use_package}
+use Rattle.ada_regions.specs.Occurrences.{in_all, if_there, one, within_region, hides_all, declares_all, in_body}
 use Rattle.ada_regions.specs.NamesInExpressions.{names_in_expression}
 use Rattle.ada_regions.specs.NamesInStatements.{names_in_indication, names_in_parameters}
 

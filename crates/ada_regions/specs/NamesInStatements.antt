@@ -36,7 +36,9 @@ use Rattle.ada_tree.specs.declared.selects.Alternative.{Alternative}
 use Rattle.ada_tree.specs.declared.selects.Alternative.TheVariants as alternative
 use Rattle.ada_tree.specs.declared.selects.Trigger.{Trigger}
 use Rattle.ada_tree.specs.declared.selects.Trigger.TheVariants as trigger
-use Rattle.ada_regions.specs.Occurrences.{Occurrences, SequenceNames, a_parameter, a_loop_parameter, a_label, an_accept, a_block, a_loop, hides, declares, mentions, mentions_simply, in_all, if_there, one, within_region, hides_all, declares_all, in_body}
+use Rattle.ada_regions.specs.Occurrences.{Occurrences, SequenceNames, a_parameter, a_loop_parameter, a_label}
+use Rattle.ada_regions.specs.Occurrences.{an_accept, a_block, a_loop, hides, declares, mentions, mentions_simply}
+use Rattle.ada_regions.specs.Occurrences.{in_all, if_there, one, within_region, hides_all, declares_all, in_body}
 use Rattle.ada_regions.specs.NamesInExpressions.{names_in_expression, names_in_arguments}
 
 -- ---- subtype indications and parameters (3.2.2, 6.1)

@@ -15,8 +15,12 @@ use Rattle.ada_tree.specs.declared.units.Package.TheVariants as packages
 use Rattle.ada_tree.specs.declared.units.PackageDeclaration.{PackageDeclaration}
 use Rattle.ada_tree.specs.declared.units.PackageBody.{PackageBody}
 use Rattle.ada_tree.specs.declared.units.MainProcedure.{MainProcedure}
-use Rattle.ada_regions.specs.Occurrences.{Occurrence, Occurrences, SequenceNames, the_package, the_main_procedure, the_context, the_context_of, further_context, package_region, package_body, main_body, private_from_here, declares_unit, with_unit, use_package, in_all, if_there, one, within_region, in_body}
-use Rattle.ada_regions.specs.NamesInStatements.{names_in_statement, labels_in_statement, names_in_handler, labels_in_handler}
+use Rattle.ada_regions.specs.Occurrences.{Occurrence, Occurrences, SequenceNames, the_package, the_main_procedure}
+use Rattle.ada_regions.specs.Occurrences.{the_context, the_context_of, further_context, package_region}
+use Rattle.ada_regions.specs.Occurrences.{package_body, main_body, private_from_here, declares_unit, with_unit}
+use Rattle.ada_regions.specs.Occurrences.{use_package, in_all, if_there, one, within_region, in_body}
+use Rattle.ada_regions.specs.NamesInStatements.{names_in_statement, labels_in_statement}
+use Rattle.ada_regions.specs.NamesInStatements.{names_in_handler, labels_in_handler}
 use Rattle.ada_regions.specs.NamesInDeclarations.{names_in_declaration, names_in_aspects}
 
 -- ---- sequences

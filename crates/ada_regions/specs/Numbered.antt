@@ -7,7 +7,9 @@ use Rattle.ada_tree.specs.declared.units.Unit.{Unit as Tree}
 use Rattle.ada_tree.specs.declared.units.Pragma.{Pragma}
 use Rattle.ada_regions.specs.declared.faults.NameFault.{NameFault}
 use Rattle.ada_regions.specs.declared.predefined.TheConstants.{LAST_PRIORITY, LAST_WIDE_PRIORITY}
-use Rattle.ada_regions.specs.Occurrences.{Occurrence, Occurrences, begins, ends, private_from_here, hides, heads, declares, declares_unit, completes, is_called, mentions, mentions_simply, mentions_entry, with_unit, use_package}
+use Rattle.ada_regions.specs.Occurrences.{Occurrence, Occurrences, begins, ends, private_from_here, hides}
+use Rattle.ada_regions.specs.Occurrences.{heads, declares, declares_unit, completes, is_called, mentions}
+use Rattle.ada_regions.specs.Occurrences.{mentions_simply, mentions_entry, with_unit, use_package}
 use Rattle.ada_regions.specs.NamesInUnits.{names_in_unit}
 use Rattle.ada_regions.specs.declared.table.Names.{Names}
 use Rattle.ada_regions.specs.Visibility.{resolved}

@@ -10,7 +10,8 @@ use Rattle.profile_image.specs.declared.values.Constraint.TheVariants as constra
 use Rattle.ada_regions.specs.declared.types.AdaType.{AdaType}
 use Rattle.ada_regions.specs.declared.types.AdaType.TheVariants as types
 use Rattle.ada_regions.specs.declared.types.Subtype.{Subtype}
-use Rattle.ada_regions.specs.declared.predefined.TheConstants.{DEFAULT_PRIORITY, DEFAULT_WIDE_PRIORITY, LAST_WIDE_PRIORITY}
+use Rattle.ada_regions.specs.declared.predefined.TheConstants.{DEFAULT_PRIORITY, DEFAULT_WIDE_PRIORITY}
+use Rattle.ada_regions.specs.declared.predefined.TheConstants.{LAST_WIDE_PRIORITY}
 use Rattle.ada_regions.specs.declared.predefined.PredefinedUnit.{PredefinedUnit}
 use Rattle.ada_regions.specs.declared.predefined.PredefinedUnit.TheVariants as units
 use Rattle.ada_regions.specs.declared.predefined.Operation.{Operation}

@@ -1,5 +1,6 @@
 -- Declarative regions (8.1): which region begins with each construct, and what is known of it while it is open.
-use Rattle.std.specs.Prelude.{ℕ, suc, Bool, true, false, cond, List, [], ◌∷◌, ◌++◌, Option, Some, None, length, option_map, eqb}
+use Rattle.std.specs.Prelude.{ℕ, suc, Bool, true, false, cond, List, [], ◌∷◌}
+use Rattle.std.specs.Prelude.{◌++◌, Option, Some, None, length, option_map, eqb}
 use Rattle.std.specs.List.{find}
 use Rattle.ann_base.specs.declared.places.Place.{Place}
 use Rattle.ada_tree.specs.declared.names.Identifier.{Identifier}
@@ -18,13 +19,16 @@ use Rattle.ada_regions.specs.Words.{and_then}
 use Rattle.std.specs.Option.{option_or}
 use Rattle.world_tables.specs.Lists.{rest_of}
 use Rattle.ada_regions.specs.PredefinedUnits.{root_unit, child_unit, same_unit}
-use Rattle.ada_regions.specs.Occurrences.{Region, the_context, the_context_of, further_context, package_region, package_body, main_body, a_profile, subprogram_body, a_unit, task_body, protected_body, entry_body, an_accept, a_block, a_loop, a_record}
+use Rattle.ada_regions.specs.Occurrences.{Region, the_context, the_context_of, further_context, package_region}
+use Rattle.ada_regions.specs.Occurrences.{package_body, main_body, a_profile, subprogram_body, a_unit, task_body}
+use Rattle.ada_regions.specs.Occurrences.{protected_body, entry_body, an_accept, a_block, a_loop, a_record}
 use Rattle.ada_regions.specs.declared.entities.UnitKind.TheVariants as unit
 use Rattle.ada_regions.specs.declared.table.NumberedEntry.{NumberedEntry}
 use Rattle.ada_regions.specs.declared.table.Names.{Names}
 use Rattle.ada_regions.specs.declared.table.Frame.{Frame}
 use Rattle.ada_regions.specs.declared.table.PackageContext.{PackageContext}
-use Rattle.ada_regions.specs.Names.{no_frame, innermost_frame, opened, region_here, scope_in, kind_at, region_of_entity, entity_denoted, denoted_by, noted, last_part}
+use Rattle.ada_regions.specs.Names.{no_frame, innermost_frame, opened, region_here, scope_in, kind_at}
+use Rattle.ada_regions.specs.Names.{region_of_entity, entity_denoted, denoted_by, noted, last_part}
 use Rattle.ada_regions.specs.SelectedNames.{name_resolved}
 use Rattle.ada_regions.specs.Declaring.{library_frame, type_of_kind}
 use Rattle.ada_regions.specs.Completions.{entity_bound, holds_of, body_begun, body_apart, components_of}

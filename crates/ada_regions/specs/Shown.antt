@@ -1,6 +1,13 @@
 -- What an item of the list of occurrences says.
 use Rattle.std.specs.Prelude.{None, Some}
-use Rattle.ada_regions.specs.Occurrences.{Occurrence, a_block, a_component, a_derived_type, a_label, a_literal, a_loop, a_loop_parameter, a_parameter, a_profile, a_protected, a_record, a_subprogram, a_subtype, a_task, a_unit, an_accept, an_array, an_entry, an_enumeration, an_exception, an_object, begins, completes, declares, declares_unit, ends, entry_body, further_context, heads, hides, is_called, main_body, mentions, mentions_entry, mentions_simply, package_body, package_region, private_from_here, protected_body, subprogram_body, task_body, the_context, the_context_of, the_main_procedure, the_package, use_package, with_unit}
+use Rattle.ada_regions.specs.Occurrences.{Occurrence, a_block, a_component, a_derived_type, a_label, a_literal, a_loop}
+use Rattle.ada_regions.specs.Occurrences.{a_loop_parameter, a_parameter, a_profile, a_protected, a_record, a_subprogram}
+use Rattle.ada_regions.specs.Occurrences.{a_subtype, a_task, a_unit, an_accept, an_array, an_entry, an_enumeration}
+use Rattle.ada_regions.specs.Occurrences.{an_exception, an_object, begins, completes, declares, declares_unit, ends}
+use Rattle.ada_regions.specs.Occurrences.{entry_body, further_context, heads, hides, is_called, main_body, mentions}
+use Rattle.ada_regions.specs.Occurrences.{mentions_entry, mentions_simply, package_body, package_region}
+use Rattle.ada_regions.specs.Occurrences.{private_from_here, protected_body, subprogram_body, task_body, the_context}
+use Rattle.ada_regions.specs.Occurrences.{the_context_of, the_main_procedure, the_package, use_package, with_unit}
 use Rattle.ada_regions.specs.declared.occurrences.Occurrence.{Occurrence as Told}
 use Rattle.ada_regions.specs.declared.occurrences.Occurrence.TheVariants as told
 

@@ -1,5 +1,6 @@
-//! What the names of a source denote (ISO/IEC 8652:2012, clause 8): the plain data of declared entities, of the occurrences of
-//! names and of the table that a source gives, and, in `specs/`, the definitions of regions, visibility and that table.
+//! What the names of a source denote (ISO/IEC 8652:2012, clause 8): the plain data of declared
+//! entities, of the occurrences of names and of the table that a source gives, and, in `specs/`,
+//! the definitions of regions, visibility and that table.
 #![tactic(auto)]
 
 mod entities;

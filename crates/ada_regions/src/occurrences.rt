@@ -10,7 +10,8 @@ use ann_base::{NoMemory, Place};
 use std::alloc::Global;
 use std::marker::Model;
 
-/// What a text says of names at one place (ISO/IEC 8652:2012, 8.1 to 8.4). Its parts are those of the tree.
+/// What a text says of names at one place (ISO/IEC 8652:2012, 8.1 to 8.4). Its parts are those of
+/// the tree.
 #[derive(Clone, Copy)]
 pub enum Occurrence<'t> {
     /// The context of a library unit begins (10.1.2).

@@ -6,7 +6,8 @@ use profile_image::{INTEGER_LAST, TIME_LAST, Value};
 /// The last Integer (3.5.4), as a literal has it; the first one is one further below 0.
 pub const LAST_INTEGER: u128 = INTEGER_LAST as u128;
 
-/// The last value of Duration in ticks (9.6), as a literal has it; the first one is one further below 0.
+/// The last value of Duration in ticks (9.6), as a literal has it; the first one is one further
+/// below 0.
 pub const LAST_DURATION: u128 = TIME_LAST as u128;
 
 /// The last value of System.Priority (13.7, D.1).

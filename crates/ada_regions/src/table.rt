@@ -1,5 +1,5 @@
-//! The table of a text: its regions (ISO/IEC 8652:2012, 8.1), the bindings of names in them, and the entities that it
-//! declares.
+//! The table of a text: its regions (ISO/IEC 8652:2012, 8.1), the bindings of names in them, and
+//! the entities that it declares.
 use crate::entities::{ComponentOwner, Denoted, Entity};
 use crate::faults::NameFault;
 use crate::parts::{AspectsOf, ExpressionOf};
@@ -8,7 +8,8 @@ use ann_base::Place;
 use profile_image::{EntryUnit, ImageList, Text};
 use world_tables::{List, Table};
 
-/// A name that a region binds. It stands for an entity, or is hidden while its declaration goes on (8.3).
+/// A name that a region binds. It stands for an entity, or is hidden while its declaration goes on
+/// (8.3).
 #[derive(Drop)]
 pub struct Binding {
     /// The name in lower case.
@@ -19,8 +20,8 @@ pub struct Binding {
     pub exported: bool,
 }
 
-/// A region that is open. Each time that a region is opened is a part of its own: the declaration of a package and its
-/// body are two.
+/// A region that is open. Each time that a region is opened is a part of its own: the declaration
+/// of a package and its body are two.
 pub struct Frame {
     /// The region.
     pub region: u32,

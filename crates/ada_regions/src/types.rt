@@ -1,7 +1,8 @@
 //! Types and subtypes (ISO/IEC 8652:2012, clause 3).
 ghost use Rattle.std.specs.Prelude.{◌≡◌};
 ghost use Rattle.ada_regions.specs.Declaring.{free_subtype};
-ghost use Rattle.ada_regions.specs.TypeKinds.{is_array_type, is_controlled_type, is_protected_type, is_span_type, is_task_type};
+ghost use Rattle.ada_regions.specs.TypeKinds.{is_array_type, is_controlled_type};
+ghost use Rattle.ada_regions.specs.TypeKinds.{is_protected_type, is_span_type, is_task_type};
 
 use profile_image::{Constraint, ControlledNo, EnumerationNo, ProtectedUnitNo, TaskUnitNo, Text};
 

@@ -1,6 +1,7 @@
 //! With what statements begin (ISO/IEC 8652:2012, 5.1, 5.5, 5.6).
 ghost use Rattle.std.specs.Prelude.{◌≡◌};
-ghost use Rattle.ada_grammar.specs.ReadingStatements.{begins_block, begins_compound, begins_loop, begins_simple, begins_statement};
+ghost use Rattle.ada_grammar.specs.ReadingStatements.{begins_block, begins_compound, begins_loop};
+ghost use Rattle.ada_grammar.specs.ReadingStatements.{begins_simple, begins_statement};
 
 use ada_grammar::Cursor;
 use ada_lex::Reserved;

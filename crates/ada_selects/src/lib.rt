@@ -1,4 +1,5 @@
-//! Reading accept and select statements (ISO/IEC 8652:2012, 9.5.2, 9.7), and what the other statements share with them.
+//! Reading accept and select statements (ISO/IEC 8652:2012, 9.5.2, 9.7), and what the other
+//! statements share with them.
 #![tactic(auto)]
 
 mod accepts;

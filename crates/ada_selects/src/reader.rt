@@ -1,4 +1,5 @@
-//! The sequences inside an accept or a select statement, and the optional parts that other statements have too.
+//! The sequences inside an accept or a select statement, and the optional parts that other
+//! statements have too.
 ghost use Rattle.std.specs.Prelude.{suc};
 ghost use Rattle.ada_grammar.specs.Reads.{Reads};
 ghost use Rattle.ada_selects.specs.Inside.{ReadsInside};

@@ -3,7 +3,15 @@ ghost use Rattle.std.specs.Prelude.{suc};
 ghost use Rattle.ada_grammar.specs.Reads.{Reads};
 ghost use Rattle.ada_selects.specs.Inside.{ReadsInside};
 ghost use Rattle.ada_grammar.specs.ReadingSequences.{further_in};
-ghost use Rattle.ada_grammar.specs.ReadingStatements.{accept_alternative_of, accept_opened_of, alternative_of, asynchronous_of, behind_call_of, call_opened_of, call_select_of, conditional_of, delay_alternative_of, delay_opened_of, delay_select_of, guard_of, next_alternative_of, select_alternative_of, select_form_of, select_of, selective_of, terminate_of, timed_of};
+ghost use Rattle.ada_grammar.specs.ReadingStatements.{accept_alternative_of, accept_opened_of};
+ghost use Rattle.ada_grammar.specs.ReadingStatements.{alternative_of, asynchronous_of};
+ghost use Rattle.ada_grammar.specs.ReadingStatements.{behind_call_of, call_opened_of};
+ghost use Rattle.ada_grammar.specs.ReadingStatements.{call_select_of, conditional_of};
+ghost use Rattle.ada_grammar.specs.ReadingStatements.{delay_alternative_of, delay_opened_of};
+ghost use Rattle.ada_grammar.specs.ReadingStatements.{delay_select_of, guard_of};
+ghost use Rattle.ada_grammar.specs.ReadingStatements.{next_alternative_of, select_alternative_of};
+ghost use Rattle.ada_grammar.specs.ReadingStatements.{select_form_of, select_of, selective_of};
+ghost use Rattle.ada_grammar.specs.ReadingStatements.{terminate_of, timed_of};
 
 use crate::nested::Nested;
 use crate::reader::SelectReader;
@@ -290,7 +298,8 @@ impl<
         }))
     }
 
-    /// A select statement that begins with a call, behind the call and the statements that follow it.
+    /// A select statement that begins with a call, behind the call and the statements that follow
+    /// it.
     #[tactic(auto, unfolding(ada_grammar::specs::ReadingStatements::behind_call_of))]
     fn behind_call(
         &self,

@@ -8,7 +8,8 @@ use Rattle.ada_grammar.specs.ReadingStatements.{statement_inside_of}
 use Rattle.ada_grammar.specs.ReadingSequences.{further_in, inside_of, parts_of, sequence_of, statement_of}
 use Rattle.ada_selects.proofs.Levels.{less_one}
 
-pub sequence_is_parts : (left : ℕ) (role : SequenceRole) (ls : List Lexeme) → sequence_of left role ls ≡ parts_of left (inside_of left) (inside_of (below left)) role ls
+pub sequence_is_parts : (left : ℕ) (role : SequenceRole) (ls : List Lexeme)
+    → sequence_of left role ls ≡ parts_of left (inside_of left) (inside_of (below left)) role ls
 unfolding sequence_of further_in
 sequence_is_parts zero role ls = refl
 sequence_is_parts (suc zero) role ls = refl
@@ -25,7 +26,8 @@ one_inside zero role ls p = absurd (omega arith)
 one_inside (suc left) role ls p = ap (λ m. sequence_of m role ls) (less_one left)
 
 pub statement_inside : (left : ℕ) (ls : List Lexeme) → 0 < left
-    → statement_of left (inside_of left) (inside_of (below left)) ls ≡ statement_inside_of (left - 1) (sequence_of (left - 1)) (further_in sequence_of (left - 1)) ls
+    → statement_of left (inside_of left) (inside_of (below left)) ls
+    ≡ statement_inside_of (left - 1) (sequence_of (left - 1)) (further_in sequence_of (left - 1)) ls
 unfolding statement_of further_in
 statement_inside zero ls p = absurd (omega arith)
 statement_inside (suc zero) ls p = ap (λ m. statement_inside_of m (sequence_of m) (further_in sequence_of m) ls) (less_one zero)

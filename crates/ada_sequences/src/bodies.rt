@@ -5,7 +5,12 @@ ghost use Rattle.ada_grammar.specs.Reading.{below};
 ghost use Rattle.ada_grammar.specs.Reads.{Reads};
 ghost use Rattle.ada_grammar.specs.ReadingDeclarations.{begins_operation};
 ghost use Rattle.ada_selects.specs.Inside.{ReadsInside};
-ghost use Rattle.ada_grammar.specs.ReadingBodies.{any_protected_of, any_task_of, begins_declaration, begins_unit, body_of, declaration_of, entry_operation_of, operation_body_of, protected_body_of, subprogram_body_of, subprogram_of, subprogram_operation_of, task_body_of};
+ghost use Rattle.ada_grammar.specs.ReadingBodies.{any_protected_of, any_task_of};
+ghost use Rattle.ada_grammar.specs.ReadingBodies.{begins_declaration, begins_unit, body_of};
+ghost use Rattle.ada_grammar.specs.ReadingBodies.{declaration_of, entry_operation_of};
+ghost use Rattle.ada_grammar.specs.ReadingBodies.{operation_body_of, protected_body_of};
+ghost use Rattle.ada_grammar.specs.ReadingBodies.{subprogram_body_of, subprogram_of};
+ghost use Rattle.ada_grammar.specs.ReadingBodies.{subprogram_operation_of, task_body_of};
 ghost use Rattle.ada_grammar.specs.ReadingSequences.{inside_of, sequence_of};
 
 use crate::sequences::SequenceReader;
@@ -34,7 +39,8 @@ pub fn below(left: usize) -> usize
     }
 }
 
-/// Whether a declaration that begins with another word than `type` or `subtype`, and with no name, begins here (3.1).
+/// Whether a declaration that begins with another word than `type` or `subtype`, and with no name,
+/// begins here (3.1).
 fn begins_unit(cursor: &Cursor<'_>) -> bool
     ensures { result ≡ begins_unit cursor.now }
 {

@@ -1,11 +1,16 @@
-//! Sequences: statements, their handlers, and the declarations before them (ISO/IEC 8652:2012, 11.2, 3.11).
+//! Sequences: statements, their handlers, and the declarations before them (ISO/IEC 8652:2012,
+//! 11.2, 3.11).
 ghost use Rattle.std.specs.Prelude.{◌≡◌, [], IfOk};
 ghost use Rattle.ada_grammar.specs.Reading.{below};
 ghost use Rattle.ada_grammar.specs.Reads.{Reads};
 ghost use Rattle.ada_selects.specs.Inside.{ReadsInside};
 ghost use Rattle.ada_grammar.specs.ReadingBodies.{begins_declaration};
 ghost use Rattle.ada_grammar.specs.ReadingStatements.{begins_statement};
-ghost use Rattle.ada_grammar.specs.ReadingSequences.{declarations_of, given_handlers_of, handled_behind_of, handler_of, handlers_of, inside_of, made, parts_of, plain_of, sequence_of, statement_of, statements_of, whole_body_of};
+ghost use Rattle.ada_grammar.specs.ReadingSequences.{declarations_of, given_handlers_of};
+ghost use Rattle.ada_grammar.specs.ReadingSequences.{handled_behind_of, handler_of};
+ghost use Rattle.ada_grammar.specs.ReadingSequences.{handlers_of, inside_of, made, parts_of};
+ghost use Rattle.ada_grammar.specs.ReadingSequences.{plain_of, sequence_of, statement_of};
+ghost use Rattle.ada_grammar.specs.ReadingSequences.{statements_of, whole_body_of};
 
 use crate::bodies::begins_declaration;
 use ada_expressions::{first_before, items};
@@ -19,8 +24,8 @@ use ann_base::{NoMemory, OrMemory};
 use sqlite_items::{Boxed, Items};
 use std::alloc::Global;
 
-/// How sequences are read where `left` levels may still be opened. The productions take the reader of the sequences
-/// further in as a parameter, so that each is proved by itself.
+/// How sequences are read where `left` levels may still be opened. The productions take the reader
+/// of the sequences further in as a parameter, so that each is proved by itself.
 #[derive(Clone, Copy)]
 pub struct SequenceReader<F> {
     /// Where memory comes from.

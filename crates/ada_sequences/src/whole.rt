@@ -1,4 +1,5 @@
-//! Sequences, bodies and declarations, each read with the sequences in them (ISO/IEC 8652:2012, 3.11, 11.2).
+//! Sequences, bodies and declarations, each read with the sequences in them (ISO/IEC 8652:2012,
+//! 3.11, 11.2).
 ghost use Rattle.std.specs.Prelude.{◌≡◌, map};
 ghost use Rattle.std.specs.Char.{to_ascii_lowercase};
 ghost use Rattle.ada_grammar.specs.Reads.{Reads};

@@ -11,7 +11,8 @@ pub region_told : (t0 t1 t2 t3 : Occurrences) (r : Region) (inside : Occurrences
 region_told t0 t1 t2 t3 r inside p q e = both_told t0 t1 t3 (one (begins r)) (inside ++ one ends) p (both_told t1 t2 t3 inside (one ends) q e)
 
 -- first these, and then the rest
-pub then_told : {V E : Type 0} (answer : Result V E) (t0 t1 t2 a b : Occurrences) → t1 ≡ t0 ++ a → OnOk answer (t2 ≡ t1 ++ b) → OnOk answer (t2 ≡ t0 ++ (a ++ b))
+pub then_told : {V E : Type 0} (answer : Result V E) (t0 t1 t2 a b : Occurrences) → t1 ≡ t0 ++ a → OnOk answer (t2 ≡ t1 ++ b)
+    → OnOk answer (t2 ≡ t0 ++ (a ++ b))
 then_told (Ok v) t0 t1 t2 a b p q = both_told t0 t1 t2 a b p q
 then_told (Err e) t0 t1 t2 a b p q = tt
 

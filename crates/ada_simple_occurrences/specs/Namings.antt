@@ -1,6 +1,7 @@
 -- What is said of a name of a list.
 use Rattle.ada_tree.specs.declared.names.Identifier.{Identifier}
-use Rattle.ada_regions.specs.Occurrences.{Occurrence, hides, declares, an_object, a_component, a_parameter, a_literal, an_exception}
+use Rattle.ada_regions.specs.Occurrences.{Occurrence, hides, declares, an_object}
+use Rattle.ada_regions.specs.Occurrences.{a_component, a_parameter, a_literal, an_exception}
 use Rattle.ada_simple_occurrences.specs.declared.telling.Naming.{Naming}
 use Rattle.ada_simple_occurrences.specs.declared.telling.Naming.TheVariants as naming
 

@@ -1,5 +1,6 @@
-//! The occurrences of names in what has no sequence of statements in it, in the order of the text (ISO/IEC 8652:2012, clause 8):
-//! expressions, simple statements, declarations without bodies, and context clauses.
+//! The occurrences of names in what has no sequence of statements in it, in the order of the text
+//! (ISO/IEC 8652:2012, clause 8): expressions, simple statements, declarations without bodies, and
+//! context clauses.
 #![tactic(auto)]
 
 mod contexts;

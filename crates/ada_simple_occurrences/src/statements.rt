@@ -1,5 +1,5 @@
-//! The names in subtype indications, in parameters, and in statements without others in them (ISO/IEC 8652:2012, clauses 3, 5, 6,
-//! 9, 11).
+//! The names in subtype indications, in parameters, and in statements without others in them
+//! (ISO/IEC 8652:2012, clauses 3, 5, 6, 9, 11).
 ghost use Rattle.std.specs.Prelude.{◌≡◌, ◌++◌, OnOk};
 ghost use Rattle.ada_regions.specs.Occurrences.{one, mentions_simply, if_there};
 ghost use Rattle.ada_regions.specs.NamesInStatements.{names_in_parameter, names_in_parameters};

@@ -1,4 +1,5 @@
-//! Statements without others in them, and their parts, as they are read (ISO/IEC 8652:2012, clauses 5, 6, 9 and 11).
+//! Statements without others in them, and their parts, as they are read (ISO/IEC 8652:2012, clauses
+//! 5, 6, 9 and 11).
 #![tactic(auto)]
 
 mod simple;

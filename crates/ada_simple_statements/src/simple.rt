@@ -1,7 +1,13 @@
 //! Statements without others in them, and their parts (ISO/IEC 8652:2012, clauses 5, 6, 9 and 11).
 ghost use Rattle.std.specs.Prelude.{◌≡◌, IfSome, map};
 ghost use Rattle.std.specs.Char.{to_ascii_lowercase};
-ghost use Rattle.ada_grammar.specs.ReadingSimple.{abort_of, assignment_behind_of, call_behind_of, call_of, choice_of, delay_of, exception_name_of, exceptions_of, exit_of, for_of, index_of, iteration_of, label_end_of, loop_name_of, null_of, raise_of, requeue_of, result_value_of, return_of, simple_of, value_choice_of, when_of, while_of, with_abort_of};
+ghost use Rattle.ada_grammar.specs.ReadingSimple.{abort_of, assignment_behind_of, call_behind_of};
+ghost use Rattle.ada_grammar.specs.ReadingSimple.{call_of, choice_of, delay_of, exception_name_of};
+ghost use Rattle.ada_grammar.specs.ReadingSimple.{exceptions_of, exit_of, for_of, index_of};
+ghost use Rattle.ada_grammar.specs.ReadingSimple.{iteration_of, label_end_of, loop_name_of};
+ghost use Rattle.ada_grammar.specs.ReadingSimple.{null_of, raise_of, requeue_of, result_value_of};
+ghost use Rattle.ada_grammar.specs.ReadingSimple.{return_of, simple_of, value_choice_of, when_of};
+ghost use Rattle.ada_grammar.specs.ReadingSimple.{while_of, with_abort_of};
 ghost use Rattle.ada_grammar.specs.Reads.{Reads};
 
 use ada_expressions::{arguments, bounds, expression, name, name_list};

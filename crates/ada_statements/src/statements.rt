@@ -1,11 +1,16 @@
-//! Statements that hold others (ISO/IEC 8652:2012, clause 5). The productions take the reader of the sequences in them as a
-//! parameter, so that each is proved by itself.
+//! Statements that hold others (ISO/IEC 8652:2012, clause 5). The productions take the reader of
+//! the sequences in them as a parameter, so that each is proved by itself.
 ghost use Rattle.std.specs.Prelude.{◌≡◌, suc, IfSome, None, Some, map};
 ghost use Rattle.std.specs.Char.{to_ascii_lowercase};
 ghost use Rattle.ada_grammar.specs.Reads.{Reads};
 ghost use Rattle.ada_selects.specs.Inside.{ReadsInside};
 ghost use Rattle.ada_grammar.specs.ReadingSequences.{further_in};
-ghost use Rattle.ada_grammar.specs.ReadingStatements.{begin_of, block_end_of, block_of, case_alternative_of, case_alternatives_of, case_of, compound_of, declare_of, elsif_of, if_of, labelled_of, loop_of, named_statement_of, simple_statement_of, statement_inside_of};
+ghost use Rattle.ada_grammar.specs.ReadingStatements.{begin_of, block_end_of, block_of};
+ghost use Rattle.ada_grammar.specs.ReadingStatements.{case_alternative_of};
+ghost use Rattle.ada_grammar.specs.ReadingStatements.{case_alternatives_of, case_of};
+ghost use Rattle.ada_grammar.specs.ReadingStatements.{compound_of, declare_of, elsif_of, if_of};
+ghost use Rattle.ada_grammar.specs.ReadingStatements.{labelled_of, loop_of, named_statement_of};
+ghost use Rattle.ada_grammar.specs.ReadingStatements.{simple_statement_of, statement_inside_of};
 
 use ada_expressions::{expression, items, separated};
 use ada_grammar::{Cursor, Stuck};

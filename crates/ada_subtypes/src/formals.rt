@@ -1,7 +1,8 @@
 //! The formal parameters of profiles (ISO/IEC 8652:2012, 6.1).
 ghost use Rattle.std.specs.Prelude.{◌≡◌, ◌++◌, ◌∷◌, [], map, IfOk, OnOk};
 ghost use Rattle.ada_regions.specs.Words.{all_of};
-ghost use Rattle.ada_regions.specs.Subtypes.{mode_out, mode_of, formal_with, formals_of_parameter, formals_of};
+ghost use Rattle.ada_regions.specs.Subtypes.{mode_out, mode_of, formal_with};
+ghost use Rattle.ada_regions.specs.Subtypes.{formals_of_parameter, formals_of};
 
 use crate::subtypes::indicated_subtype;
 use ada_entities::copy;

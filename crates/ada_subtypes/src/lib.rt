@@ -1,5 +1,6 @@
-//! Static values and subtypes, given what their names denote (ISO/IEC 8652:2012, 3.2.2, 3.5, 3.6, 4.9, 6.1). Each function has
-//! the name of the definition of `ada_regions` of which it is the counterpart.
+//! Static values and subtypes, given what their names denote (ISO/IEC 8652:2012, 3.2.2, 3.5, 3.6,
+//! 4.9, 6.1). Each function has the name of the definition of `ada_regions` of which it is the
+//! counterpart.
 #![tactic(auto)]
 
 mod formals;

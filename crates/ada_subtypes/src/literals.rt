@@ -2,7 +2,9 @@
 ghost use Rattle.std.specs.Prelude.{◌≡◌, ◌+◌, ◌*◌, ◌<◌, ◌≤◌, ◌^◌};
 ghost use Rattle.std.specs.Option.{SomeIff};
 ghost use Rattle.ada_lex.specs.Meaning.{whole_of};
-ghost use Rattle.ada_regions.specs.Statics.{digit_at, six_digits, micros_of, in_integer, in_duration, negative_in_integer, negative_in_duration, static_literal, static_negative};
+ghost use Rattle.ada_regions.specs.Statics.{digit_at, six_digits, micros_of, in_integer};
+ghost use Rattle.ada_regions.specs.Statics.{in_duration, negative_in_integer};
+ghost use Rattle.ada_regions.specs.Statics.{negative_in_duration, static_literal, static_negative};
 
 use ada_lex::{decimals, whole_value};
 use ada_regions::{LAST_DURATION, LAST_INTEGER};
@@ -86,7 +88,8 @@ fn negative_in_duration(literal: &[u8]) -> Option<Value>
     }
 }
 
-/// The value of a numeric literal that lies in its type: one with a point in Duration, any other one in Integer.
+/// The value of a numeric literal that lies in its type: one with a point in Duration, any other
+/// one in Integer.
 #[tactic(auto, unfolding(ada_regions::specs::Statics::static_literal))]
 pub fn static_literal(literal: &[u8]) -> Option<Value>
     ensures { result ≡ static_literal literal.now }

@@ -1,7 +1,9 @@
 //! The ends of ranges (ISO/IEC 8652:2012, 3.5).
 ghost use Rattle.std.specs.Prelude.{◌≡◌, slice_get};
-ghost use Rattle.ada_regions.specs.Statics.{low_of, high_of, index_or_free, range_of_type, range_named};
-ghost use Rattle.ada_regions.specs.Subtypes.{whole_range, truth_range, literal_range, ticks_range, range_between};
+ghost use Rattle.ada_regions.specs.Statics.{low_of, high_of, index_or_free};
+ghost use Rattle.ada_regions.specs.Statics.{range_of_type, range_named};
+ghost use Rattle.ada_regions.specs.Subtypes.{whole_range, truth_range, literal_range};
+ghost use Rattle.ada_regions.specs.Subtypes.{ticks_range, range_between};
 
 use ada_regions::{AdaType, Names, Subtype};
 use ann_base::Moment;
@@ -94,7 +96,8 @@ fn ticks_range(low: Moment, high: Option<Value>, range: Constraint) -> Constrain
     }
 }
 
-/// The range from one value to another, where both are static and of one type; else the one that is given.
+/// The range from one value to another, where both are static and of one type; else the one that is
+/// given.
 #[tactic(auto, unfolding(ada_regions::specs::Subtypes::range_between))]
 pub fn range_between(low: Option<Value>, high: Option<Value>, range: Constraint) -> Constraint
     ensures { result ≡ range_between low high range }

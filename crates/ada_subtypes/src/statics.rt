@@ -1,9 +1,12 @@
-//! Static expressions (ISO/IEC 8652:2012, 4.9): literals, minus a literal, constants of these, enumeration literals, First and
-//! Last.
+//! Static expressions (ISO/IEC 8652:2012, 4.9): literals, minus a literal, constants of these,
+//! enumeration literals, First and Last.
 ghost use Rattle.std.specs.Prelude.{◌≡◌, option_copied};
 ghost use Rattle.ada_tree.specs.declared.expressions.Expression.TheViews.{out-Expression};
 ghost use Rattle.ada_regions.specs.Words.{and_then};
-ghost use Rattle.ada_regions.specs.Statics.{value_of_kind, value_of_item, value_denoted, subtype_of_item, subtype_denoted, subtype_of_name, low_of, high_of, range_named, attribute_value, static_name, literal_of, signed_literal, static_value};
+ghost use Rattle.ada_regions.specs.Statics.{value_of_kind, value_of_item, value_denoted};
+ghost use Rattle.ada_regions.specs.Statics.{subtype_of_item, subtype_denoted, subtype_of_name};
+ghost use Rattle.ada_regions.specs.Statics.{low_of, high_of, range_named, attribute_value};
+ghost use Rattle.ada_regions.specs.Statics.{static_name, literal_of, signed_literal, static_value};
 
 use crate::literals::{static_literal, static_negative};
 use crate::ranges::{high_of, low_of, range_named};

@@ -1,6 +1,7 @@
 //! Subtype indications and array types (ISO/IEC 8652:2012, 3.2.2, 3.6).
 ghost use Rattle.std.specs.Prelude.{◌≡◌};
-ghost use Rattle.ada_regions.specs.Subtypes.{mark_of_kind, mark_denoted, constrained, indicated_subtype, array_type};
+ghost use Rattle.ada_regions.specs.Subtypes.{mark_of_kind, mark_denoted, constrained};
+ghost use Rattle.ada_regions.specs.Subtypes.{indicated_subtype, array_type};
 
 use crate::ranges::range_between;
 use crate::statics::{static_value, subtype_of_item};

@@ -9,21 +9,25 @@ use Rattle.ann_base.specs.Lists.{is_empty}
 pub both : {a b c d : List Written} → a ≡ c → b ≡ d → a ++ b ≡ c ++ d
 both p q = rw (p, q) refl
 
-pub each_of_map : {X Y : Type 0} (w : Y → List Written) (g : X → Y) (v : X → List Written) (same : (x : X) → w (g x) ≡ v x) (xs : List X) → flat_map w (map g xs) ≡ flat_map v xs
+pub each_of_map : {X Y : Type 0} (w : Y → List Written) (g : X → Y) (v : X → List Written) (same : (x : X) → w (g x) ≡ v x) (xs : List X)
+    → flat_map w (map g xs) ≡ flat_map v xs
 each_of_map w g v same [] = refl
 each_of_map w g v same (x ∷ xs) = rw (same x, each_of_map w g v same xs) refl
 
-pub behind_of_map : {X Y : Type 0} (separator : Written) (w : Y → List Written) (g : X → Y) (v : X → List Written) (same : (x : X) → w (g x) ≡ v x) (xs : List X)
+pub behind_of_map : {X Y : Type 0} (separator : Written) (w : Y → List Written) (g : X → Y) (v : X → List Written) (same : (x : X) → w (g x) ≡ v x)
+    (xs : List X)
     → flat_map (behind separator w) (map g xs) ≡ flat_map (behind separator v) xs
 behind_of_map separator w g v same [] = refl
 behind_of_map separator w g v same (x ∷ xs) = rw (same x, behind_of_map separator w g v same xs) refl
 
-pub enclosed_of_map : {X Y : Type 0} (opening separator : Written) (closing : List Written) (w : Y → List Written) (g : X → Y) (v : X → List Written) (same : (x : X) → w (g x) ≡ v x) (xs : List X)
+pub enclosed_of_map : {X Y : Type 0} (opening separator : Written) (closing : List Written) (w : Y → List Written) (g : X → Y) (v : X → List Written)
+    (same : (x : X) → w (g x) ≡ v x) (xs : List X)
     → enclosed opening separator closing w (map g xs) ≡ enclosed opening separator closing v xs
 enclosed_of_map opening separator closing w g v same [] = refl
 enclosed_of_map opening separator closing w g v same (x ∷ xs) = rw (same x, behind_of_map separator w g v same xs) refl
 
-pub all_written_of_map : {X Y : Type 0} (w : Y → List Written) (g : X → Y) (v : X → List Written) (same : (x : X) → w (g x) ≡ v x) (y : Y) (x : X) → w y ≡ v x → (xs : List X)
+pub all_written_of_map : {X Y : Type 0} (w : Y → List Written) (g : X → Y) (v : X → List Written) (same : (x : X) → w (g x) ≡ v x) (y : Y) (x : X) → w y ≡ v x
+    → (xs : List X)
     → all_written w (record { first = y; others = map g xs }) ≡ all_written v (record { first = x; others = xs })
 all_written_of_map w g v same y x e xs = both e (each_of_map w g v same xs)
 

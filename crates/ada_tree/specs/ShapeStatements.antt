@@ -36,7 +36,8 @@ use Rattle.ada_tree.specs.declared.selects.Trigger.{Trigger}
 use Rattle.ada_tree.specs.declared.selects.SelectForm.TheVariants as select
 use Rattle.ada_tree.specs.declared.selects.Alternative.TheVariants as alternative
 use Rattle.ada_tree.specs.declared.selects.Trigger.TheVariants as trigger
-use Rattle.ada_tree.specs.ShapeExpressions.{within, all_fit, optional_fits, enclosed_fit, expression_fits, arguments_fit}
+use Rattle.ada_tree.specs.ShapeExpressions.{within, all_fit, optional_fits, enclosed_fit}
+use Rattle.ada_tree.specs.ShapeExpressions.{expression_fits, arguments_fit}
 
 -- an expression where any may stand
 abbrev pub value_fits : ℕ → Expression → Bool

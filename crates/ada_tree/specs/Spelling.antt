@@ -17,7 +17,8 @@ use Rattle.ada_tree.specs.declared.units.PackageDeclaration.{PackageDeclaration}
 use Rattle.ada_tree.specs.declared.units.PackageBody.{PackageBody}
 use Rattle.ada_tree.specs.declared.units.MainProcedure.{MainProcedure}
 use Rattle.ada_tree.specs.declared.units.Package.TheVariants as packages
-use Rattle.ada_tree.specs.Written.{Written, Lexeme, AllSpell, word, word_at, delimiter, identifier_written, all_written, separated, optional, name_written, end_name_written}
+use Rattle.ada_tree.specs.Written.{Written, Lexeme, AllSpell, word, word_at, delimiter, identifier_written}
+use Rattle.ada_tree.specs.Written.{all_written, separated, optional, name_written, end_name_written}
 use Rattle.ada_tree.specs.SpellingExpressions.{expression_written, argument_written}
 use Rattle.ada_tree.specs.SpellingStatements.{semicolon, statement_written, handler_written}
 use Rattle.ada_tree.specs.SpellingDeclarations.{declaration_written, body_written, aspects_written}

@@ -28,7 +28,8 @@ use Rattle.ada_tree.specs.declared.declarations.Declaration.TheVariants as decla
 use Rattle.ada_tree.specs.declared.declarations.TypeDefinition.TheVariants as definition
 use Rattle.ada_tree.specs.declared.declarations.ProtectedOperation.TheVariants as operation
 use Rattle.ada_tree.specs.declared.declarations.OperationBody.TheVariants as body_of
-use Rattle.ada_tree.specs.Written.{Written, word, word_at, delimiter, identifier_written, all_written, optional, flag, enclosed, name_written, identifiers_written, end_name_written}
+use Rattle.ada_tree.specs.Written.{Written, word, word_at, delimiter, identifier_written, all_written, optional}
+use Rattle.ada_tree.specs.Written.{flag, enclosed, name_written, identifiers_written, end_name_written}
 use Rattle.ada_tree.specs.SpellingExpressions.{expression_written}
 use Rattle.ada_tree.specs.SpellingStatements.{semicolon, indication_written, parameters_written}
 

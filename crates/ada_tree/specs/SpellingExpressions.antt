@@ -26,7 +26,8 @@ use Rattle.ada_tree.specs.declared.expressions.Addend.{Addend}
 use Rattle.ada_tree.specs.declared.expressions.Multiplied.{Multiplied}
 use Rattle.ada_tree.specs.declared.expressions.AttributeDesignator.{AttributeDesignator}
 use Rattle.ada_tree.specs.declared.expressions.Argument.{Argument}
-use Rattle.ada_tree.specs.Written.{Written, word, word_at, delimiter, delimiter_at, number_at, text_at, identifier_written, all_written, optional, enclosed, name_written}
+use Rattle.ada_tree.specs.Written.{Written, word, word_at, delimiter, delimiter_at, number_at, text_at}
+use Rattle.ada_tree.specs.Written.{identifier_written, all_written, optional, enclosed, name_written}
 
 -- ---- operators
 

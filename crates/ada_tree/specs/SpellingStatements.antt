@@ -40,7 +40,9 @@ use Rattle.ada_tree.specs.declared.selects.Trigger.{Trigger}
 use Rattle.ada_tree.specs.declared.selects.SelectForm.TheVariants as select
 use Rattle.ada_tree.specs.declared.selects.Alternative.TheVariants as alternative
 use Rattle.ada_tree.specs.declared.selects.Trigger.TheVariants as trigger
-use Rattle.ada_tree.specs.Written.{Written, word, word_at, delimiter, identifier_written, separated, all_written, optional, flag, enclosed, name_written, identifiers_written, end_name_written, one_identifier}
+use Rattle.ada_tree.specs.Written.{Written, word, word_at, delimiter, identifier_written}
+use Rattle.ada_tree.specs.Written.{separated, all_written, optional, flag, enclosed, name_written}
+use Rattle.ada_tree.specs.Written.{identifiers_written, end_name_written, one_identifier}
 use Rattle.ada_tree.specs.SpellingExpressions.{expression_written, arguments_written}
 
 -- ---- subtype indications and parameters (3.2.2, 6.1)

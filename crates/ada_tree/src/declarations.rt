@@ -1,5 +1,5 @@
-//! Declarations (ISO/IEC 8652:2012, clauses 3, 6, 9 and 11). Bodies are generic over the sequences `Q`
-//! in them.
+//! Declarations (ISO/IEC 8652:2012, clauses 3, 6, 9 and 11). Bodies are generic over the sequences
+//! `Q` in them.
 use crate::{Expression, Identifier, Name, OneOrMore};
 use ann_base::Place;
 use sqlite_items::Items;

@@ -6,7 +6,8 @@ use crate::{
 use ann_base::Place;
 use sqlite_items::{Boxed, Items};
 
-/// An expression. Precedence is kept where each operand binds at least as tightly as its place asks.
+/// An expression. Precedence is kept where each operand binds at least as tightly as its place
+/// asks.
 #[derive(Drop)]
 pub struct Expression {
     /// Its form.
@@ -54,7 +55,8 @@ pub enum ExpressionForm<E> {
         /// The right side.
         right: E,
     },
-    /// Terms that are added, subtracted or joined, from left to right (4.5.3). The first may have a sign.
+    /// Terms that are added, subtracted or joined, from left to right (4.5.3). The first may have a
+    /// sign.
     Adding {
         /// The first term.
         first: E,
@@ -112,7 +114,8 @@ pub enum ExpressionForm<E> {
         /// The expression.
         inner: E,
     },
-    /// A name, an attribute of it, an element of it or a call of it; the grammar does not tell the last two apart.
+    /// A name, an attribute of it, an element of it or a call of it; the grammar does not tell the
+    /// last two apart.
     Named {
         /// The name.
         name: Name,

@@ -1,8 +1,8 @@
-//! The tree of an Ada source, as plain public data with places. Its `specs` say which tokens spell a tree, and which
-//! trees are those of the grammar.
+//! The tree of an Ada source, as plain public data with places. Its `specs` say which tokens spell
+//! a tree, and which trees are those of the grammar.
 //!
-//! Each `drop` that takes a part of a tree apart is written out: a derived one would be proved anew in each crate, and on
-//! each way out of a function, that drops the part.
+//! Each `drop` that takes a part of a tree apart is written out: a derived one would be proved anew
+//! in each crate, and on each way out of a function, that drops the part.
 #![tactic(auto)]
 
 mod bytes;

@@ -1,13 +1,14 @@
-//! Statements (ISO/IEC 8652:2012, clauses 5, 9 and 11). Those that hold others are generic over the sequences `Q` in
-//! them.
+//! Statements (ISO/IEC 8652:2012, clauses 5, 9 and 11). Those that hold others are generic over the
+//! sequences `Q` in them.
 use crate::{
     Argument, Declaration, Expression, Identifier, Name, OneOrMore, Parameter, SelectStatement,
 };
 use ann_base::Place;
 use sqlite_items::{Boxed, Items};
 
-/// A sequence of statements with what may stand around it (5.1, 11.2, 3.11): the statements of a compound statement,
-/// those of an accept statement or a block with their handlers, or all of a body.
+/// A sequence of statements with what may stand around it (5.1, 11.2, 3.11): the statements of a
+/// compound statement, those of an accept statement or a block with their handlers, or all of a
+/// body.
 #[derive(Drop)]
 pub struct Sequence {
     /// Its parts.

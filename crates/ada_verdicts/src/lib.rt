@@ -1,5 +1,6 @@
 //! What the front end says of a source: that it is accepted as an image, or why and where it is
-//! refused, and what each stage's fault says. The definitions of all stand in `specs/`; `ada_front` answers by them.
+//! refused, and what each stage's fault says. The definitions of all stand in `specs/`; `ada_front`
+//! answers by them.
 #![tactic(auto)]
 
 mod laws;

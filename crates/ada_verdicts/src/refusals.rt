@@ -4,8 +4,8 @@ ghost use Rattle.ada_verdicts.specs.Refusals.{letter_of, number_of};
 
 use ann_base::Place;
 
-/// Why a source is refused. Each has a letter and a number, which are printed: F for the form of a source, L for its
-/// legality.
+/// Why a source is refused. Each has a letter and a number, which are printed: F for the form of a
+/// source, L for its legality.
 #[derive(Clone, Copy)]
 pub enum Code {
     /// F1: a byte that no token, separator or comment has there (2.1, 2.2).

@@ -1,6 +1,7 @@
 //! The first reason for which a source is refused, in the order of the steps that refuse.
 ghost use Rattle.std.specs.Prelude.{◌≡◌, ◌≤◌, length};
-ghost use Rattle.ada_verdicts.specs.Refusals.{of_tokens, of_grammar, of_names, of_rules, of_forms, place_of, end_of, place_after};
+ghost use Rattle.ada_verdicts.specs.Refusals.{of_tokens, of_grammar, of_names, of_rules};
+ghost use Rattle.ada_verdicts.specs.Refusals.{of_forms, place_of, end_of, place_after};
 
 use crate::refusals::{Code, Refusal};
 use ada_grammar::ParseFault;
@@ -25,8 +26,8 @@ pub fn of_tokens(fault: LexFault) -> Refusal
     }
 }
 
-/// The refusal of tokens that spell no tree, at the place of the token; the end of the source stands after its last
-/// byte.
+/// The refusal of tokens that spell no tree, at the place of the token; the end of the source
+/// stands after its last byte.
 pub fn of_grammar(source: &[u8], tokens: &[Token], fault: ParseFault) -> Refusal
     requires { length source.now ≤ MAX_SOURCE }
     ensures { result ≡ of_grammar source.now tokens.now fault }

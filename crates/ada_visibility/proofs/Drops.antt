@@ -14,7 +14,8 @@ pub used_in_before : (n : Names) (name : List ℕ) (region place : ℕ) (us : Li
     → 0 < place → slice_get us (place - 1) ≡ Some u → behind ≡ used_in n name region (drop place us) others
     → cond (eqb u.region region) (joined_if (visible_in n name u.used) behind) behind ≡ used_in n name region (drop (place - 1) us) others
 used_in_before n name region place us u behind others h there e =
-    ap (λ b. cond (eqb u.region region) (joined_if (visible_in n name u.used) b) b) (e ∙ sym (ap (λ p. used_in n name region (drop p us) others) (one_less place h)))
+    ap (λ b. cond (eqb u.region region) (joined_if (visible_in n name u.used) b) b)
+    (e ∙ sym (ap (λ p. used_in n name region (drop p us) others) (one_less place h)))
     ∙ sym (ap (λ zs. used_in n name region zs others) (drop_there us (place - 1) u there))
 
 pub used_around_before : (n : Names) (name : List ℕ) (place : ℕ) (fs : List Frame) (f : Frame) (outside : Sought)

@@ -1,6 +1,8 @@
-//! Direct visibility: the declaration of the innermost region around a name that has one (ISO/IEC 8652:2012, 8.3).
+//! Direct visibility: the declaration of the innermost region around a name that has one (ISO/IEC
+//! 8652:2012, 8.3).
 ghost use Rattle.std.specs.Prelude.{◌≡◌, option_copied};
-ghost use Rattle.ada_regions.specs.Visibility.{innermost_binding, item_of, in_standard, bound, directly};
+ghost use Rattle.ada_regions.specs.Visibility.{innermost_binding, item_of};
+ghost use Rattle.ada_regions.specs.Visibility.{in_standard, bound, directly};
 
 use ada_entities::binding_in;
 use ada_predefined::{item_in, root_unit};
@@ -50,7 +52,8 @@ pub fn bound(binding: &Binding) -> Option<Denoted>
     Some(Denoted::Entity(binding.entity?))
 }
 
-/// Where a name has a declaration in the regions around it, or hides those outside: what it denotes, if it is visible.
+/// Where a name has a declaration in the regions around it, or hides those outside: what it
+/// denotes, if it is visible.
 #[tactic(auto, unfolding(ada_regions::specs::Visibility::directly))]
 pub(crate) fn directly(names: &Names<'_>, name: &[u8]) -> Option<Option<Denoted>>
     ensures { result ≡ directly names.now name.now }

@@ -3,7 +3,12 @@ ghost use Rattle.std.specs.Prelude.{◌≡◌, OnOk, option_copied, option_map, 
 ghost use Rattle.std.specs.Option.{option_or};
 ghost use Rattle.ada_regions.specs.PredefinedUnits.{child_unit};
 ghost use Rattle.ada_regions.specs.Visibility.{item_of};
-ghost use Rattle.ada_regions.specs.SelectedNames.{region_of_type, region_of_subtype, region_selected, exported_by, is_owned_by, frame_owned_by, declared_inside, selected_from_entity, selected, selection_answered, parts_resolved, name_resolved};
+ghost use Rattle.ada_regions.specs.SelectedNames.{region_of_type, region_of_subtype};
+ghost use Rattle.ada_regions.specs.SelectedNames.{region_selected, exported_by};
+ghost use Rattle.ada_regions.specs.SelectedNames.{is_owned_by, frame_owned_by};
+ghost use Rattle.ada_regions.specs.SelectedNames.{declared_inside, selected_from_entity};
+ghost use Rattle.ada_regions.specs.SelectedNames.{selected, selection_answered};
+ghost use Rattle.ada_regions.specs.SelectedNames.{parts_resolved, name_resolved};
 
 use crate::direct::{bound, item_of};
 use crate::seeking::resolved;
@@ -139,7 +144,8 @@ fn selection_answered(
     }
 }
 
-/// The further parts of a name, behind what those before them denote; nothing is asked of parts behind an unknown one.
+/// The further parts of a name, behind what those before them denote; nothing is asked of parts
+/// behind an unknown one.
 #[tactic(auto, using(crate::proofs::Parts::none_resolved))]
 fn parts_resolved(
     alloc: Global,

@@ -1,12 +1,16 @@
 //! What use clauses make visible (ISO/IEC 8652:2012, 8.4).
-ghost use Rattle.std.specs.Prelude.{◌≡◌, ◌<◌, ◌≤◌, ◌-◌, cond, drop, eqb, length, find, option_copied};
+ghost use Rattle.std.specs.Prelude.{◌≡◌, ◌<◌, ◌≤◌, ◌-◌, cond, drop};
+ghost use Rattle.std.specs.Prelude.{eqb, length, find, option_copied};
 ghost use Rattle.std.specs.List.{list_any};
 ghost use Rattle.world_tables.specs.Tables.{item_at};
 ghost use Rattle.ada_regions.specs.declared.entities.Sought.{Sought};
 ghost use Rattle.ada_regions.specs.Words.{and_then};
 ghost use Rattle.std.specs.Option.{option_or};
 ghost use Rattle.ada_regions.specs.PredefinedUnits.{parent_unit, child_unit};
-ghost use Rattle.ada_regions.specs.Visibility.{is_unit_or_parent, stands_under, is_withed_by, some_if_withed, exports_name, exported_from, item_of, visible_in, same_denoted, joined, joined_if, used_in, used_around};
+ghost use Rattle.ada_regions.specs.Visibility.{is_unit_or_parent, stands_under, is_withed_by};
+ghost use Rattle.ada_regions.specs.Visibility.{some_if_withed, exports_name, exported_from};
+ghost use Rattle.ada_regions.specs.Visibility.{item_of, visible_in, same_denoted, joined};
+ghost use Rattle.ada_regions.specs.Visibility.{joined_if, used_in, used_around};
 
 use crate::direct::{bound, item_of};
 use ada_entities::{binds, region_of_entity};
@@ -162,7 +166,8 @@ fn joined_if(denoted: Option<Denoted>, others: Sought) -> Sought
     }
 }
 
-/// What one use clause makes visible, if it is one of this region, joined to what those behind it do.
+/// What one use clause makes visible, if it is one of this region, joined to what those behind it
+/// do.
 fn used_by(
     names: &Names<'_>,
     name: &[u8],
@@ -181,8 +186,8 @@ fn used_by(
     }
 }
 
-/// What the last use clause before a place makes visible, if it is one of this region, joined to what those from the place on
-/// do.
+/// What the last use clause before a place makes visible, if it is one of this region, joined to
+/// what those from the place on do.
 #[tactic(auto, using(crate::proofs::Drops::used_in_before))]
 fn used_before(names: &Names<'_>, name: &[u8], region: u32, place: usize, behind: Sought) -> Sought
     requires some { 0 < place }
@@ -211,8 +216,8 @@ pub(crate) fn used_in(names: &Names<'_>, name: &[u8], region: u32, others: Sough
     found
 }
 
-/// What clauses of the region of the last frame before a place make visible, joined to what those of the frames from the place
-/// outwards do.
+/// What clauses of the region of the last frame before a place make visible, joined to what those
+/// of the frames from the place outwards do.
 #[tactic(auto, using(crate::proofs::Drops::used_around_before))]
 fn used_in_frame(names: &Names<'_>, name: &[u8], place: usize, outside: Sought) -> Sought
     requires some { 0 < place }

@@ -1,6 +1,7 @@
 //! The exceptions that a run may raise.
 
-/// An exception: one of the predefined ones, or a declared one by the number of its declaration (11.1).
+/// An exception: one of the predefined ones, or a declared one by the number of its declaration
+/// (11.1).
 #[derive(Clone, Copy, PartialEq, Eq)]
 pub enum Raised {
     /// Constraint_Error.

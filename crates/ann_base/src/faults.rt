@@ -20,7 +20,8 @@ pub struct Failed;
 #[error("full")]
 pub struct Full;
 
-/// Why a call answers nothing: a fault of its own, or memory ran out. No clause says when memory runs out.
+/// Why a call answers nothing: a fault of its own, or memory ran out. No clause says when memory
+/// runs out.
 #[derive(Clone, Copy, Debug, PartialEq, Eq)]
 pub enum OrMemory<F> {
     /// Memory ran out.

@@ -22,7 +22,8 @@ pub struct CallNo(pub u32);
 #[derive(Clone, Copy, PartialEq, Eq)]
 pub struct ObjectNo(pub u32);
 
-/// The region of a kept scope, numbered from 1 in the order in which such scopes begin (7.6.1, 9.3).
+/// The region of a kept scope, numbered from 1 in the order in which such scopes begin (7.6.1,
+/// 9.3).
 #[derive(Clone, Copy, PartialEq, Eq)]
 pub struct RegionNo(pub u32);
 

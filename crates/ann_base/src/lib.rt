@@ -1,6 +1,6 @@
-//! What every crate of the interpreter shares: places in a source, the numbers that name run-time things,
-//! the predefined exceptions, names of bounded length, and the outside (files that are read, sinks that are
-//! written).
+//! What every crate of the interpreter shares: places in a source, the numbers that name run-time
+//! things, the predefined exceptions, names of bounded length, and the outside (files that are
+//! read, sinks that are written).
 #![tactic(auto)]
 
 mod exceptions;

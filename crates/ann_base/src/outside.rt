@@ -1,8 +1,9 @@
 //! The outside as the program sees it: a shelf of files to read and sinks to write to.
 //!
-//! Each counts its faults in a `u64`. A fault has *risen* in a call where the count is greater behind the call
-//! than before it, or stood at its type's end before it, where it can rise no more.
-ghost use Rattle.std.specs.Prelude.{◌≡◌, ◌≤◌, ◌<◌, ℕ, Bool, true, false, List, Option, length, take, IfOk, OnOk, OnErr};
+//! Each counts its faults in a `u64`. A fault has *risen* in a call where the count is greater
+//! behind the call than before it, or stood at its type's end before it, where it can rise no more.
+ghost use Rattle.std.specs.Prelude.{◌≡◌, ◌≤◌, ◌<◌, ℕ, Bool, true, false, List};
+ghost use Rattle.std.specs.Prelude.{Option, length, take, IfOk, OnOk, OnErr};
 ghost use Rattle.ann_base.specs.Outside.{Rose, Lacks, IsPickedAt, HasRead, extended};
 
 use crate::Failed;
@@ -12,7 +13,8 @@ pub trait Shelf {
     /// The files by name, where the shelf tells them.
     ghost files: { Self → Option (List ℕ → Option (List ℕ)) };
 
-    /// The name of the picked file and the offset of the next byte, where the shelf tells its files.
+    /// The name of the picked file and the offset of the next byte, where the shelf tells its
+    /// files.
     ghost at: { Self → Option (List ℕ × ℕ) };
 
     /// Whether a file is picked.
@@ -31,8 +33,8 @@ pub trait Shelf {
         ensures cause { OnErr result
             (Lacks (files self.old) name.now (Rose (faults self.old) (faults self.new))) };
 
-    /// Reads bytes of the picked file into the front of `piece`, and answers how many. The answer is 0 for a
-    /// nonempty piece exactly at the file's end, where the shelf tells its files.
+    /// Reads bytes of the picked file into the front of `piece`, and answers how many. The answer
+    /// is 0 for a nonempty piece exactly at the file's end, where the shelf tells its files.
     fn read(&mut self, piece: &mut [u8]) -> Result<usize, Failed>
         requires { picked self.old ≡ true }
         ensures files { files self.new ≡ files self.old }
@@ -55,7 +57,8 @@ pub trait Sink {
     /// How often the sink has failed.
     ghost faults: { Self → ℕ };
 
-    /// Writes bytes of the front of `piece`, and answers how many: at least one of a nonempty piece.
+    /// Writes bytes of the front of `piece`, and answers how many: at least one of a nonempty
+    /// piece.
     fn write(&mut self, piece: &[u8]) -> Result<usize, Failed>
         ensures monotone { faults self.old ≤ faults self.new }
         ensures within { IfOk result (λ count. count ≤ length piece.now) }

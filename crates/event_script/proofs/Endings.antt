@@ -30,4 +30,5 @@ either_way true r e = refl
 either_way false r e = e
 
 pub no_more_words : (is_second : Bool) (tick word : List ℕ) → entry_in is_second (tick ∷ word ∷ []) ≡ Err BadLine
-no_more_words is_second tick word = either_way (length tick == 0) (entry_by (keyword_of is_second word) tick []) (nothing_behind (keyword_of is_second word) tick)
+no_more_words is_second tick word =
+    either_way (length tick == 0) (entry_by (keyword_of is_second word) tick []) (nothing_behind (keyword_of is_second word) tick)

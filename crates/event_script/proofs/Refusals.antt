@@ -11,7 +11,9 @@ use Rattle.event_script.specs.declared.faults.ScriptFault.{ScriptFault}
 use Rattle.event_script.specs.declared.reading.Reading.{Reading}
 use Rattle.event_script.specs.Script.{read_line, items_of, nothing_read, script_of}
 
-pub refused : (bytes : List ℕ) (reading after : Reading) (line : NumberedLine) (lines : List NumberedLine) (fault : OrMemory ScriptFault) → fold read_line (Ok reading) (line ∷ lines) ≡ fold read_line (Ok nothing_read) (lines_of bytes) → AnswersAs (λ (unit : Unit {0}). after) (Err fault) (read_line (Ok reading) line) → Answers {X = List (ℤ × Item)} (Err fault) (script_of bytes)
+pub refused : (bytes : List ℕ) (reading after : Reading) (line : NumberedLine) (lines : List NumberedLine) (fault : OrMemory ScriptFault)
+    → fold read_line (Ok reading) (line ∷ lines) ≡ fold read_line (Ok nothing_read) (lines_of bytes)
+    → AnswersAs (λ (unit : Unit {0}). after) (Err fault) (read_line (Ok reading) line) → Answers {X = List (ℤ × Item)} (Err fault) (script_of bytes)
 refused bytes reading after line lines answer.Memory rest read = tt
 refused bytes reading after line lines (answer.Fault fault) rest read =
     ap items_of (sym rest ∙ ap (λ state. fold read_line state lines) read ∙ fold_stays read_line (Err fault) (λ line. refl) lines)

@@ -1,6 +1,7 @@
 -- What a line of a script says: `TICK interrupt N`, `TICK port N VALUE`, and in a script of the second version also
 -- `TICK every PERIOD COUNT interrupt N`, `TICK mask N` and `TICK unmask N`.
-use Rattle.std.specs.Prelude.{◌≤◌, ℕ, ℤ, ◌*◌, ◌+◌, ◌-◌, ◌==◌, ◌&&◌, not, Bool, nat_le, if◌then◌else◌, List, [], ◌∷◌, length, Option, Some, None, Result, Ok, Err, codes}
+use Rattle.std.specs.Prelude.{◌≤◌, ℕ, ℤ, ◌*◌, ◌+◌, ◌-◌, ◌==◌, ◌&&◌, not, Bool, nat_le, if◌then◌else◌}
+use Rattle.std.specs.Prelude.{List, [], ◌∷◌, length, Option, Some, None, Result, Ok, Err, codes}
 use Rattle.std.specs.Str.{bytes_eq}
 use Rattle.text_lines.specs.Lines.{words_of}
 use Rattle.text_lines.specs.Numerals.{number_in}

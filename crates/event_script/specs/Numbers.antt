@@ -1,5 +1,6 @@
 -- The numbers of a line of a script.
-use Rattle.std.specs.Prelude.{ℕ, ℤ, pos, neg_ℤ, ◌==◌, ◌+◌, if◌then◌else◌, List, [], ◌∷◌, Option, Some, None, option_map, Result, Ok, Err}
+use Rattle.std.specs.Prelude.{ℕ, ℤ, pos, neg_ℤ, ◌==◌, ◌+◌, if◌then◌else◌, List, []}
+use Rattle.std.specs.Prelude.{◌∷◌, Option, Some, None, option_map, Result, Ok, Err}
 use Rattle.text_lines.specs.Numerals.{is_numeral, number_in}
 use Rattle.event_script.specs.declared.faults.TheConstants.{LAST_TICK}
 use Rattle.profile_image.specs.declared.limits.TheConstants.{LAST_OUTSIDE_LINE}

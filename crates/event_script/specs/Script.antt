@@ -1,5 +1,6 @@
 -- What a script says: its items, or its first line that is refused.
-use Rattle.std.specs.Prelude.{◌≡◌, ℕ, ℤ, ◌+◌, ◌==◌, ◌&&◌, Bool, true, false, nat_lt, if◌then◌else◌, List, [], ◌∷◌, length, take, Result, Ok, Err, codes}
+use Rattle.std.specs.Prelude.{◌≡◌, ℕ, ℤ, ◌+◌, ◌==◌, ◌&&◌, Bool, true, false, nat_lt}
+use Rattle.std.specs.Prelude.{if◌then◌else◌, List, [], ◌∷◌, length, take, Result, Ok, Err, codes}
 use Rattle.std.specs.List.{fold}
 use Rattle.std.specs.Str.{bytes_eq}
 use Rattle.text_lines.specs.Lines.{NumberedLine, lines_of}
@@ -7,7 +8,8 @@ use Rattle.profile_image.specs.declared.script_items.Item.{Item}
 use Rattle.event_script.specs.declared.faults.TheConstants.{SCRIPT_BYTES, MOST_ITEMS}
 use Rattle.event_script.specs.declared.faults.ScriptFault.{ScriptFault}
 use Rattle.event_script.specs.declared.faults.ScriptFaultKind.{ScriptFaultKind}
-use Rattle.event_script.specs.declared.faults.ScriptFaultKind.TheVariants.{BadLine, BadNumber, BackInTime, NoSuchLine, TooMany}
+use Rattle.event_script.specs.declared.faults.ScriptFaultKind.TheVariants.{BadLine, BadNumber, BackInTime}
+use Rattle.event_script.specs.declared.faults.ScriptFaultKind.TheVariants.{NoSuchLine, TooMany}
 use Rattle.event_script.specs.declared.entries.Entry.{Entry}
 use Rattle.event_script.specs.declared.reading.Reading.{Reading}
 use Rattle.event_script.specs.Entries.{entry_of}

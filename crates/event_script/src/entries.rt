@@ -6,7 +6,10 @@ ghost use Rattle.text_lines.specs.Numerals.{number_in};
 ghost use Rattle.event_script.specs.declared.faults.TheConstants.{LAST_TICK, MOST_ITEMS};
 ghost use Rattle.event_script.specs.Words.{one_word, two_words};
 ghost use Rattle.event_script.specs.Numbers.{tick_in, number_of, value_in};
-ghost use Rattle.event_script.specs.Entries.{IsTickAndNumber, IsEntry, at_tick, once_at, once, with_item, port_at, port_line, ends_in_time, every_number, every_at, is_every, every_with, every_line, entry_by, entry_of};
+ghost use Rattle.event_script.specs.Entries.{IsTickAndNumber, IsEntry, at_tick, once_at};
+ghost use Rattle.event_script.specs.Entries.{once, with_item, port_at, port_line};
+ghost use Rattle.event_script.specs.Entries.{ends_in_time, every_number, every_at, is_every};
+ghost use Rattle.event_script.specs.Entries.{every_with, every_line, entry_by, entry_of};
 
 use crate::faults::{LAST_TICK, MOST_ITEMS, ScriptFaultKind};
 use crate::numbers::{number_of, tick_in, value_in};
@@ -14,7 +17,8 @@ use crate::words::{Keyword, keyword_of, one_word, two_words};
 use profile_image::Item;
 use text_lines::{next_word, number_in};
 
-/// What a line says: an item that comes so many times, first at a tick, and then once in each period.
+/// What a line says: an item that comes so many times, first at a tick, and then once in each
+/// period.
 #[derive(Clone, Copy)]
 pub struct Entry {
     pub tick: u32,

@@ -1,5 +1,5 @@
-//! Scripts: the interrupts that come, the ports that are set and the interrupts that are masked in a run, each at its
-//! tick. `docs/SCRIPTS.md` explains the format.
+//! Scripts: the interrupts that come, the ports that are set and the interrupts that are masked in
+//! a run, each at its tick. `docs/SCRIPTS.md` explains the format.
 #![tactic(auto)]
 
 mod entries;

@@ -4,7 +4,8 @@ ghost use Rattle.ann_base.specs.Answers.{Answers, AnswersAs};
 ghost use Rattle.text_lines.specs.Lines.{line_in};
 ghost use Rattle.event_script.specs.Entries.{IsEntry, entry_of};
 ghost use Rattle.event_script.specs.Items.{IsScript};
-ghost use Rattle.event_script.specs.Script.{is_silent, is_version, with_entry, at_line, read_line, script_of};
+ghost use Rattle.event_script.specs.Script.{is_silent, is_version, with_entry};
+ghost use Rattle.event_script.specs.Script.{at_line, read_line, script_of};
 ghost use Rattle.event_script.specs.declared.faults.TheConstants.{SCRIPT_BYTES};
 
 use crate::entries::{Entry, entry_of};
@@ -16,8 +17,8 @@ use std::alloc::Global;
 use text_lines::{TextLine, line_at};
 use world_tables::List;
 
-/// What was read of a script: whether it is of the second version, the last tick of a line, and the items in the order
-/// in which they come.
+/// What was read of a script: whether it is of the second version, the last tick of a line, and the
+/// items in the order in which they come.
 #[derive(Drop)]
 pub struct Reading {
     is_second: bool,
@@ -43,7 +44,8 @@ fn is_version(line: &TextLine<'_>) -> bool
     line.number == 1 && line.text == b"version 2".as_slice()
 }
 
-/// Adds what a line says; it is refused where its tick is too low, or where there would be too many items.
+/// Adds what a line says; it is refused where its tick is too low, or where there would be too many
+/// items.
 #[tactic(auto, using(crate::proofs::InOrder::put_entry_keeps))]
 fn add_entry(reading: &mut Reading, line: u32, entry: Entry) -> Result<(), OrMemory<ScriptFault>>
     requires script { IsScript reading.old.items }

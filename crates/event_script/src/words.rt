@@ -1,7 +1,8 @@
 //! The words of a line.
 ghost use Rattle.std.specs.Prelude.{◌≡◌, Some, None, MatchOption};
 ghost use Rattle.text_lines.specs.Lines.{words_of};
-ghost use Rattle.event_script.specs.Words.{keyword_of, keyword_of_second_version, one_word, two_words};
+ghost use Rattle.event_script.specs.Words.{keyword_of, keyword_of_second_version};
+ghost use Rattle.event_script.specs.Words.{one_word, two_words};
 
 use text_lines::next_word;
 

@@ -21,7 +21,8 @@ one_more number f fs arguments n = refl
 -- the actual for the next formal, and then those for the others
 pub actuals_more : (number : ℕ) (formals : List Formal) (f : Formal) (arguments : List (Argument Expression)) (n : Names)
     → number < length formals → f ≡ get_or formals number f
-    → actuals_from number (drop number formals) arguments n ≡ (actual_built f (argument_from number f.name 0 arguments) n && actuals_from (number + 1) (drop (number + 1) formals) arguments n)
+    → actuals_from number (drop number formals) arguments n
+    ≡ (actual_built f (argument_from number f.name 0 arguments) n && actuals_from (number + 1) (drop (number + 1) formals) arguments n)
 actuals_more number formals f arguments n l is =
     let cut : drop number formals ≡ f ∷ drop (number + 1) formals = drop_more formals number f l ∙ ap (λ x. x ∷ drop (number + 1) formals) (sym is) in
     let next : suc number ≡ number + 1 = omega arith in

@@ -2,7 +2,11 @@
 ghost use Rattle.std.specs.Prelude.{◌≡◌, option_copied};
 ghost use Rattle.ada_tree.specs.declared.expressions.ExpressionForm.TheVariants as form;
 ghost use Rattle.ada_image.specs.ImageOfCalls.{call_of_kind};
-ghost use Rattle.ada_image.specs.BuiltStatements.{value_there, value_if_there, variable_built, variable_there, mode_built, actual_built, arguments_built, call_of_form, call_in, call_or_value_built, source_built, source_if_there};
+ghost use Rattle.ada_image.specs.BuiltStatements.{value_there, value_if_there};
+ghost use Rattle.ada_image.specs.BuiltStatements.{variable_built, variable_there, mode_built};
+ghost use Rattle.ada_image.specs.BuiltStatements.{actual_built, arguments_built};
+ghost use Rattle.ada_image.specs.BuiltStatements.{call_of_form, call_in, call_or_value_built};
+ghost use Rattle.ada_image.specs.BuiltStatements.{source_built, source_if_there};
 ghost use Rattle.ada_image.specs.BuiltSequences.{call_if_built, initial_built};
 
 use crate::expressions::expression_built;

@@ -1,7 +1,8 @@
-//! Whether call statements have a form in an image (ISO/IEC 8652:2012, 6.4, 9.5.3): of a subprogram,
-//! an entry or a predefined procedure.
+//! Whether call statements have a form in an image (ISO/IEC 8652:2012, 6.4, 9.5.3): of a
+//! subprogram, an entry or a predefined procedure.
 ghost use Rattle.std.specs.Prelude.{◌≡◌};
-ghost use Rattle.ada_image.specs.BuiltStatements.{entity_call_built, item_call_built, denoted_call_built, call_statement_built};
+ghost use Rattle.ada_image.specs.BuiltStatements.{entity_call_built, item_call_built};
+ghost use Rattle.ada_image.specs.BuiltStatements.{denoted_call_built, call_statement_built};
 
 use crate::actuals::arguments_built;
 use crate::procedures::procedure_built;

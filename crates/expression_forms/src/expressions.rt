@@ -1,7 +1,9 @@
-//! Expressions (ISO/IEC 8652:2012, 4.1, 4.4, 4.5): each operand of an operator has a form in an image, and each name denotes
-//! what has a value.
+//! Expressions (ISO/IEC 8652:2012, 4.1, 4.4, 4.5): each operand of an operator has a form in an
+//! image, and each name denotes what has a value.
 ghost use Rattle.std.specs.Prelude.{◌≡◌, ◌∷◌};
-ghost use Rattle.ada_image.specs.BuiltExpressions.{item_built, denoted_built, named_built, operands_built, addends_built, factors_built, expression_built};
+ghost use Rattle.ada_image.specs.BuiltExpressions.{item_built, denoted_built, named_built};
+ghost use Rattle.ada_image.specs.BuiltExpressions.{operands_built, addends_built};
+ghost use Rattle.ada_image.specs.BuiltExpressions.{factors_built, expression_built};
 
 use crate::forms::HasForm;
 use crate::functions::{is_built_if_there, operation_built};

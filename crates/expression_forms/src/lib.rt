@@ -1,5 +1,6 @@
-//! Which expressions and calls of a source have a form in an image (ISO/IEC 8652:2012, clauses 3, 4, 6 and 9.5). Each function has
-//! the name of the definition of `ada_image` of which it is the counterpart.
+//! Which expressions and calls of a source have a form in an image (ISO/IEC 8652:2012, clauses 3,
+//! 4, 6 and 9.5). Each function has the name of the definition of `ada_image` of which it is the
+//! counterpart.
 #![tactic(auto)]
 
 mod actuals;

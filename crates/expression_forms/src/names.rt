@@ -1,6 +1,7 @@
 //! Names as values, and attributes of them (ISO/IEC 8652:2012, 4.1, 4.1.4).
 ghost use Rattle.std.specs.Prelude.{◌≡◌, option_copied};
-ghost use Rattle.ada_image.specs.BuiltExpressions.{is_given, is_given_if, is_entry, kind_of, attribute_built, object_built, entity_built};
+ghost use Rattle.ada_image.specs.BuiltExpressions.{is_given, is_given_if, is_entry, kind_of};
+ghost use Rattle.ada_image.specs.BuiltExpressions.{attribute_built, object_built, entity_built};
 
 use ada_entities::{denoted_by, entity_of, kind_at};
 use ada_regions::{EntityKind, Names, Subtype};

@@ -1,4 +1,5 @@
-//! Calls of predefined procedures (ISO/IEC 8652:2012, A.10.7, D.2.5, D.2.6, D.5.1, D.14.1, D.14.2, D.15).
+//! Calls of predefined procedures (ISO/IEC 8652:2012, A.10.7, D.2.5, D.2.6, D.5.1, D.14.1, D.14.2,
+//! D.15).
 ghost use Rattle.std.specs.Prelude.{◌≡◌};
 ghost use Rattle.ada_regions.specs.PredefinedUnits.{names_of_formals};
 ghost use Rattle.ada_image.specs.ImageOfExpressions.{actuals_for};

@@ -1,7 +1,8 @@
 //! The text of Put_Line (ISO/IEC 8652:2012, A.10.7): a text, an Image, or several joined.
 ghost use Rattle.std.specs.Prelude.{◌≡◌, ◌∷◌, option_copied};
 ghost use Rattle.ada_tree.specs.declared.expressions.Expression.TheViews.{out-Expression};
-ghost use Rattle.ada_image.specs.BuiltStatements.{piece_built, pieces_built, text_form_built, text_built};
+ghost use Rattle.ada_image.specs.BuiltStatements.{piece_built, pieces_built};
+ghost use Rattle.ada_image.specs.BuiltStatements.{text_form_built, text_built};
 
 use crate::actuals::value_there;
 use ada_regions::Names;

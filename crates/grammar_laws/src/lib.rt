@@ -1,5 +1,5 @@
-//! Laws of the grammar: what is read is what is written, what is written is read, and no tree goes on with the token at which the
-//! reading stops.
+//! Laws of the grammar: what is read is what is written, what is written is read, and no tree goes
+//! on with the token at which the reading stops.
 #![tactic(auto)]
 
 mod fault_places;

@@ -1,7 +1,10 @@
-//! Laws of the grammar. Each is the contract of a function without a body: whoever calls it knows the law.
-ghost use Rattle.grammar_laws.specs.GrammarLaws.{ReadIsSpelt, SpeltIsRead, OneTreeSpells, ExpressionIsSpelt};
+//! Laws of the grammar. Each is the contract of a function without a body: whoever calls it knows
+//! the law.
+ghost use Rattle.grammar_laws.specs.GrammarLaws.{ReadIsSpelt, SpeltIsRead};
+ghost use Rattle.grammar_laws.specs.GrammarLaws.{OneTreeSpells, ExpressionIsSpelt};
 
-/// The tree that is read of a source's tokens spells them, and is shaped (docs/LANGUAGE.md, section 2).
+/// The tree that is read of a source's tokens spells them, and is shaped (docs/LANGUAGE.md, section
+/// 2).
 pub fn read_is_spelt()
     ensures { ReadIsSpelt }
 {}
@@ -18,7 +21,8 @@ pub fn one_tree_spells()
     ensures { OneTreeSpells }
 {}
 
-/// An expression that is read spells the tokens before those that are left, and keeps precedence (4.4).
+/// An expression that is read spells the tokens before those that are left, and keeps precedence
+/// (4.4).
 pub fn expression_is_spelt()
     ensures { ExpressionIsSpelt }
 {}

@@ -17,7 +17,8 @@ use std::alloc::Global;
 use std::process::Abort;
 use std::test::Fail;
 
-/// Code and place of the fault, code 0 where there is a tree; at the end of the source the place is 0:0.
+/// Code and place of the fault, code 0 where there is a tree; at the end of the source the place is
+/// 0:0.
 fn fault_of(alloc: Global, source: &[u8]) -> Result<(u8, u32, u32), Fail> {
     let tokens = lex(alloc, source)?;
     let (code, token) = match parse(alloc, source, &tokens) {

@@ -2,7 +2,8 @@
 //! 6.4.1).
 ghost use Rattle.std.specs.Prelude.{◌≡◌, OnOk, option_copied};
 ghost use Rattle.ada_image.specs.Made.{Made};
-ghost use Rattle.ada_image.specs.ImageOfCalls.{in_made, out_made, in_out_made, mode_made, thing_actual, actual_made, arguments_made};
+ghost use Rattle.ada_image.specs.ImageOfCalls.{in_made, out_made, in_out_made, mode_made};
+ghost use Rattle.ada_image.specs.ImageOfCalls.{thing_actual, actual_made, arguments_made};
 ghost use Rattle.image_actuals.specs.Added.{Added, actual_if};
 
 use crate::targets::variable_in;

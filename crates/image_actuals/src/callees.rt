@@ -1,7 +1,8 @@
 //! Whom a name calls (ISO/IEC 8652:2012, 9.5, 9.5.3). An operation of the unit in whose body the
 //! call stands is called from inside.
 ghost use Rattle.std.specs.Prelude.{◌≡◌};
-ghost use Rattle.ada_image.specs.ImageOfCalls.{operation_called, callee_of, owner_before, owner_of_entry};
+ghost use Rattle.ada_image.specs.ImageOfCalls.{operation_called, callee_of};
+ghost use Rattle.ada_image.specs.ImageOfCalls.{owner_before, owner_of_entry};
 
 use ada_image::Within;
 use ada_tree::Name;

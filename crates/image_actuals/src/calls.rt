@@ -1,7 +1,9 @@
 //! Calls of declared subprograms and entries (ISO/IEC 8652:2012, 6.4, 9.5.3).
 ghost use Rattle.std.specs.Prelude.{◌≡◌, option_map};
 ghost use Rattle.ada_image.specs.Made.{Made};
-ghost use Rattle.ada_image.specs.ImageOfCalls.{call_put, entry_call_put, call_of_kind, call_of_name, function_call, function_call_put, not_built};
+ghost use Rattle.ada_image.specs.ImageOfCalls.{call_put, entry_call_put, call_of_kind};
+ghost use Rattle.ada_image.specs.ImageOfCalls.{call_of_name, function_call};
+ghost use Rattle.ada_image.specs.ImageOfCalls.{function_call_put, not_built};
 ghost use Rattle.image_actuals.specs.Shown.{call_shown};
 
 use crate::actuals::arguments_made;

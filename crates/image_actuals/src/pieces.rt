@@ -4,7 +4,9 @@ ghost use Rattle.std.specs.Prelude.{◌≡◌, ◌++◌, ◌∷◌, [], OnOk, op
 ghost use Rattle.profile_image.specs.declared.statements.Piece.TheVariants as piece;
 ghost use Rattle.ada_tree.specs.declared.expressions.Expression.TheViews.{out-Expression};
 ghost use Rattle.ada_image.specs.Made.{Made};
-ghost use Rattle.ada_image.specs.ImageOfCalls.{piece_of_type, image_piece, value_or_none, image_made, piece_made, joined_made, all_joined, pieces_in_form, pieces_made, put_line_put};
+ghost use Rattle.ada_image.specs.ImageOfCalls.{piece_of_type, image_piece, value_or_none};
+ghost use Rattle.ada_image.specs.ImageOfCalls.{image_made, piece_made, joined_made, all_joined};
+ghost use Rattle.ada_image.specs.ImageOfCalls.{pieces_in_form, pieces_made, put_line_put};
 ghost use Rattle.image_actuals.specs.Added.{Added};
 
 use ada_entities::copy;

@@ -8,14 +8,18 @@ use Rattle.ada_image.specs.ImageOfStatements.{SequenceMaking, statement_put, sta
 use Rattle.image_layout.proofs.Drops.{one_before}
 
 module _ {Q : Type 0} (sequence : Q → SequenceMaking) (within : Within) where
-  pub statements_first : (s : Statement Q) (others slice : List (Statement Q)) (next later : Option StatementNo) (before between : Lists) (whole : Lists × Option StatementNo)
+  pub statements_first : (s : Statement Q) (others slice : List (Statement Q)) (next later : Option StatementNo) (before between : Lists)
+      (whole : Lists × Option StatementNo)
       → slice ≡ others → statements_put sequence within slice next before ≡ (between, later) → statement_put sequence within s later between ≡ whole
       → statements_put sequence within (s ∷ others) next before ≡ whole
   unfolding statements_put
   statements_first s others slice next later before between whole slice-is behind made =
-      ap (λ (r : Lists × Option StatementNo). statement_put sequence within s r.1 r.0) (ap (λ (ss : List (Statement Q)). statements_put sequence within ss next before) (sym slice-is) ∙ behind) ∙ made
+      ap (λ (r : Lists × Option StatementNo). statement_put sequence within s r.1 r.0)
+      (ap (λ (ss : List (Statement Q)). statements_put sequence within ss next before) (sym slice-is) ∙ behind)
+      ∙ made
 
-  pub statements_before : (ss : List (Statement Q)) (place : ℕ) (s : Statement Q) (next later : Option StatementNo) (before between : Lists) (whole : Lists × Option StatementNo)
+  pub statements_before : (ss : List (Statement Q)) (place : ℕ) (s : Statement Q) (next later : Option StatementNo) (before between : Lists)
+      (whole : Lists × Option StatementNo)
       → 0 < place → place ≤ length ss → s ≡ get_or ss (place - 1) s
       → statements_put sequence within (drop place ss) next before ≡ (between, later) → statement_put sequence within s later between ≡ whole
       → statements_put sequence within (drop (place - 1) ss) next before ≡ whole

@@ -3,7 +3,9 @@ ghost use Rattle.std.specs.Prelude.{None, false, true};
 ghost use Rattle.ada_image.specs.declared.making.SequencePlace.TheVariants as sequence_place;
 ghost use Rattle.ada_image.specs.Making.{in_body_of};
 ghost use Rattle.ada_image.specs.Made.{Made};
-ghost use Rattle.ada_image.specs.ImageOfDeclarations.{body_put, subprogram_declared_as, operation_body_put, operation_bodies_put, inner_body_put, inner_bodies_put};
+ghost use Rattle.ada_image.specs.ImageOfDeclarations.{body_put, subprogram_declared_as};
+ghost use Rattle.ada_image.specs.ImageOfDeclarations.{operation_body_put, operation_bodies_put};
+ghost use Rattle.ada_image.specs.ImageOfDeclarations.{inner_body_put, inner_bodies_put};
 
 use crate::sequences::WithDeclarations;
 use ada_entities::entity_denoted;

@@ -1,6 +1,8 @@
-//! Sequences of statements (ISO/IEC 8652:2012, 3.11, 11.2): the activation stands before the statements, inside the handlers.
+//! Sequences of statements (ISO/IEC 8652:2012, 3.11, 11.2): the activation stands before the
+//! statements, inside the handlers.
 ghost use Rattle.ada_image.specs.Made.{Made};
-ghost use Rattle.ada_image.specs.ImageOfDeclarations.{unhandled_put, with_handlers_put, handled_put, whole_put, parts_put};
+ghost use Rattle.ada_image.specs.ImageOfDeclarations.{unhandled_put, with_handlers_put};
+ghost use Rattle.ada_image.specs.ImageOfDeclarations.{handled_put, whole_put, parts_put};
 
 use crate::bodies::inner_bodies_put;
 use crate::statements::statements_put;

@@ -1,10 +1,14 @@
-//! Actions of predefined procedures that differ in nothing but in what they make of like arguments (ISO/IEC 8652:2012,
-//! D.2.5, D.2.6, D.5.1, D.14.1, D.14.2, D.15).
+//! Actions of predefined procedures that differ in nothing but in what they make of like arguments
+//! (ISO/IEC 8652:2012, D.2.5, D.2.6, D.5.1, D.14.1, D.14.2, D.15).
 ghost use Rattle.std.specs.Prelude.{◌≡◌, option_copied};
 ghost use Rattle.ada_image.specs.Made.{Made};
 ghost use Rattle.ada_image.specs.ImageOfExpressions.{actuals_for, optional_value};
-ghost use Rattle.ada_image.specs.ImageOfProcedures.{variable_of, cancel_put, budget_put, task_put, values_put};
-ghost use Rattle.image_calls.specs.Actions.{cancel_action, cancelled_formal, cancel_formals, budget_action, budgeted_formal, budget_formals, task_action, set_formal, task_formals, values_action, first_formal, second_formal, values_formals};
+ghost use Rattle.ada_image.specs.ImageOfProcedures.{variable_of, cancel_put};
+ghost use Rattle.ada_image.specs.ImageOfProcedures.{budget_put, task_put, values_put};
+ghost use Rattle.image_calls.specs.Actions.{cancel_action, cancelled_formal, cancel_formals};
+ghost use Rattle.image_calls.specs.Actions.{budget_action, budgeted_formal, budget_formals};
+ghost use Rattle.image_calls.specs.Actions.{task_action, set_formal, task_formals, values_action};
+ghost use Rattle.image_calls.specs.Actions.{first_formal, second_formal, values_formals};
 
 use ada_image::{Lists, Within};
 use ada_tree::{Argument, Expression};

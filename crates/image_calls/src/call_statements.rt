@@ -1,6 +1,8 @@
-//! Call statements become actions (ISO/IEC 8652:2012, 6.4, 9.5.3): of a subprogram, an entry or a predefined procedure.
+//! Call statements become actions (ISO/IEC 8652:2012, 6.4, 9.5.3): of a subprogram, an entry or a
+//! predefined procedure.
 ghost use Rattle.ada_image.specs.Made.{Made};
-ghost use Rattle.ada_image.specs.CallStatements.{entity_call_put, item_call_put, denoted_call_put, call_statement_put};
+ghost use Rattle.ada_image.specs.CallStatements.{entity_call_put, item_call_put};
+ghost use Rattle.ada_image.specs.CallStatements.{denoted_call_put, call_statement_put};
 
 use crate::procedures::procedure_put;
 use ada_entities::{denoted_by, kind_at};

@@ -36,16 +36,19 @@ list_more {X = X} m k before after x xs more whole made more-is lists-are made-a
 
 module _ {Q : Type 0} (sequence : Q → SequenceMaking) (within : Within) (next : Option StatementNo) where
   alternative_first : (a : CaseAlternative Q) (others : List (CaseAlternative Q)) (lists : Lists)
-      → one_then (alternative_made sequence within a next) (alternatives_put sequence within others next) lists ≡ alternatives_put sequence within (a ∷ others) next lists
+      → one_then (alternative_made sequence within a next) (alternatives_put sequence within others next) lists
+      ≡ alternatives_put sequence within (a ∷ others) next lists
   unfolding one_then alternative_made alternatives_put
   alternative_first a others lists = refl
 
-  pub alternatives_more : (a : CaseAlternative Q) (all others : List (CaseAlternative Q)) (before after : Lists) (one : CaseActions) (made more : List CaseActions) (whole : Lists × List CaseActions)
+  pub alternatives_more : (a : CaseAlternative Q) (all others : List (CaseAlternative Q)) (before after : Lists) (one : CaseActions)
+      (made more : List CaseActions) (whole : Lists × List CaseActions)
       → alternative_made sequence within a next before ≡ (after, one) → all ≡ a ∷ others → more ≡ made ++ one ∷ []
       → (alternatives_put sequence within all next before).0 ≡ whole.0 → made ++ (alternatives_put sequence within all next before).1 ≡ whole.1
       → ((alternatives_put sequence within others next after).0 ≡ whole.0) × (more ++ (alternatives_put sequence within others next after).1 ≡ whole.1)
   alternatives_more a all others before after one made more whole step all-is more-is lists-are made-are =
-      let first : one_then (alternative_made sequence within a next) (alternatives_put sequence within others next) before ≡ alternatives_put sequence within all next before =
+      let first : one_then (alternative_made sequence within a next) (alternatives_put sequence within others next) before
+      ≡ alternatives_put sequence within all next before =
       alternative_first a others before ∙ ap (λ xs. alternatives_put sequence within xs next before) (sym all-is) in
       list_more (alternative_made sequence within a next) (alternatives_put sequence within others next) before after one made more whole step more-is
       (ap (λ (r : Lists × List CaseActions). r.0) first ∙ lists-are) (ap (λ (r : Lists × List CaseActions). made ++ r.1) first ∙ made-are)
@@ -58,61 +61,80 @@ module _ {Q : Type 0} (sequence : Q → SequenceMaking) (within : Within) (next 
       alternatives_more a (a ∷ others) others before after one made more (alternatives_put sequence within (a ∷ others) next before) step refl more-is refl
       (ap (λ ys. ys ++ (alternatives_put sequence within (a ∷ others) next before).1) nothing)
 
-  pub alternatives_further : (a : CaseAlternative Q) (all slice : List (CaseAlternative Q)) (i : ℕ) (before after : Lists) (one : CaseActions) (made more : List CaseActions) (whole : Lists × List CaseActions)
+  pub alternatives_further : (a : CaseAlternative Q) (all slice : List (CaseAlternative Q)) (i : ℕ) (before after : Lists) (one : CaseActions)
+      (made more : List CaseActions) (whole : Lists × List CaseActions)
       → slice ≡ all → i < length slice → a ≡ get_or slice i a → alternative_made sequence within a next before ≡ (after, one) → more ≡ made ++ one ∷ []
-      → (alternatives_put sequence within (drop i all) next before).0 ≡ whole.0 → made ++ (alternatives_put sequence within (drop i all) next before).1 ≡ whole.1
-      → ((alternatives_put sequence within (drop (i + 1) all) next after).0 ≡ whole.0) × (more ++ (alternatives_put sequence within (drop (i + 1) all) next after).1 ≡ whole.1)
+      → (alternatives_put sequence within (drop i all) next before).0 ≡ whole.0
+      → made ++ (alternatives_put sequence within (drop i all) next before).1 ≡ whole.1
+      → ((alternatives_put sequence within (drop (i + 1) all) next after).0 ≡ whole.0)
+      × (more ++ (alternatives_put sequence within (drop (i + 1) all) next after).1 ≡ whole.1)
   alternatives_further a all slice i before after one made more whole slice-is inside is step more-is lists-are made-are =
-      alternatives_more a (drop i all) (drop (i + 1) all) before after one made more whole step (cut_of all slice i a slice-is inside is) more-is lists-are made-are
+      alternatives_more a (drop i all) (drop (i + 1) all) before after one made more whole step
+      (cut_of all slice i a slice-is inside is) more-is lists-are made-are
 
   handler_first : (h : Handler Q) (others : List (Handler Q)) (lists : Lists)
       → one_then (handler_made sequence within h next) (handlers_put sequence within others next) lists ≡ handlers_put sequence within (h ∷ others) next lists
   unfolding one_then handler_made handlers_put
   handler_first h others lists = refl
 
-  pub handlers_more : (h : Handler Q) (all others : List (Handler Q)) (before after : Lists) (one : ExceptionHandler) (made more : List ExceptionHandler) (whole : Lists × List ExceptionHandler)
+  pub handlers_more : (h : Handler Q) (all others : List (Handler Q)) (before after : Lists) (one : ExceptionHandler) (made more : List ExceptionHandler)
+      (whole : Lists × List ExceptionHandler)
       → handler_made sequence within h next before ≡ (after, one) → all ≡ h ∷ others → more ≡ made ++ one ∷ []
       → (handlers_put sequence within all next before).0 ≡ whole.0 → made ++ (handlers_put sequence within all next before).1 ≡ whole.1
       → ((handlers_put sequence within others next after).0 ≡ whole.0) × (more ++ (handlers_put sequence within others next after).1 ≡ whole.1)
   handlers_more h all others before after one made more whole step all-is more-is lists-are made-are =
-      let first : one_then (handler_made sequence within h next) (handlers_put sequence within others next) before ≡ handlers_put sequence within all next before =
+      let first : one_then (handler_made sequence within h next) (handlers_put sequence within others next) before
+      ≡ handlers_put sequence within all next before =
       handler_first h others before ∙ ap (λ xs. handlers_put sequence within xs next before) (sym all-is) in
       list_more (handler_made sequence within h next) (handlers_put sequence within others next) before after one made more whole step more-is
       (ap (λ (r : Lists × List ExceptionHandler). r.0) first ∙ lists-are) (ap (λ (r : Lists × List ExceptionHandler). made ++ r.1) first ∙ made-are)
 
-  pub handlers_further : (h : Handler Q) (all : List (Handler Q)) (i : ℕ) (before after : Lists) (one : ExceptionHandler) (made more : List ExceptionHandler) (whole : Lists × List ExceptionHandler)
+  pub handlers_further : (h : Handler Q) (all : List (Handler Q)) (i : ℕ) (before after : Lists) (one : ExceptionHandler) (made more : List ExceptionHandler)
+      (whole : Lists × List ExceptionHandler)
       → i < length all → h ≡ get_or all i h → handler_made sequence within h next before ≡ (after, one) → more ≡ made ++ one ∷ []
       → (handlers_put sequence within (drop i all) next before).0 ≡ whole.0 → made ++ (handlers_put sequence within (drop i all) next before).1 ≡ whole.1
-      → ((handlers_put sequence within (drop (i + 1) all) next after).0 ≡ whole.0) × (more ++ (handlers_put sequence within (drop (i + 1) all) next after).1 ≡ whole.1)
+      → ((handlers_put sequence within (drop (i + 1) all) next after).0 ≡ whole.0)
+      × (more ++ (handlers_put sequence within (drop (i + 1) all) next after).1 ≡ whole.1)
   handlers_further h all i before after one made more whole inside is step more-is lists-are made-are =
       handlers_more h (drop i all) (drop (i + 1) all) before after one made more whole step (cut all i h inside is) more-is lists-are made-are
 
   select_alternative_first : (a : SelectAlternative Q) (others : List (SelectAlternative Q)) (lists : Lists)
-      → one_then (select_alternative_put sequence within a next) (select_alternatives_put sequence within others next) lists ≡ select_alternatives_put sequence within (a ∷ others) next lists
+      → one_then (select_alternative_put sequence within a next) (select_alternatives_put sequence within others next) lists
+      ≡ select_alternatives_put sequence within (a ∷ others) next lists
   unfolding one_then select_alternatives_put
   select_alternative_first a others lists = refl
 
-  pub select_alternatives_more : (a : SelectAlternative Q) (all others : List (SelectAlternative Q)) (before after : Lists) (one : GuardedAlternative) (made more : List GuardedAlternative) (whole : Lists × List GuardedAlternative)
+  pub select_alternatives_more : (a : SelectAlternative Q) (all others : List (SelectAlternative Q)) (before after : Lists) (one : GuardedAlternative)
+      (made more : List GuardedAlternative) (whole : Lists × List GuardedAlternative)
       → select_alternative_put sequence within a next before ≡ (after, one) → all ≡ a ∷ others → more ≡ made ++ one ∷ []
       → (select_alternatives_put sequence within all next before).0 ≡ whole.0 → made ++ (select_alternatives_put sequence within all next before).1 ≡ whole.1
-      → ((select_alternatives_put sequence within others next after).0 ≡ whole.0) × (more ++ (select_alternatives_put sequence within others next after).1 ≡ whole.1)
+      → ((select_alternatives_put sequence within others next after).0 ≡ whole.0)
+      × (more ++ (select_alternatives_put sequence within others next after).1 ≡ whole.1)
   select_alternatives_more a all others before after one made more whole step all-is more-is lists-are made-are =
-      let first : one_then (select_alternative_put sequence within a next) (select_alternatives_put sequence within others next) before ≡ select_alternatives_put sequence within all next before =
+      let first : one_then (select_alternative_put sequence within a next) (select_alternatives_put sequence within others next) before
+      ≡ select_alternatives_put sequence within all next before =
       select_alternative_first a others before ∙ ap (λ xs. select_alternatives_put sequence within xs next before) (sym all-is) in
-      list_more (select_alternative_put sequence within a next) (select_alternatives_put sequence within others next) before after one made more whole step more-is
+      list_more (select_alternative_put sequence within a next)
+      (select_alternatives_put sequence within others next) before after one made more whole step more-is
       (ap (λ (r : Lists × List GuardedAlternative). r.0) first ∙ lists-are) (ap (λ (r : Lists × List GuardedAlternative). made ++ r.1) first ∙ made-are)
 
-  pub select_alternatives_begun : (a : SelectAlternative Q) (others : List (SelectAlternative Q)) (before after : Lists) (one : GuardedAlternative) (made more : List GuardedAlternative)
+  pub select_alternatives_begun : (a : SelectAlternative Q) (others : List (SelectAlternative Q)) (before after : Lists) (one : GuardedAlternative)
+      (made more : List GuardedAlternative)
       → made ≡ [] → select_alternative_put sequence within a next before ≡ (after, one) → more ≡ made ++ one ∷ []
       → ((select_alternatives_put sequence within others next after).0 ≡ (select_alternatives_put sequence within (a ∷ others) next before).0)
       × (more ++ (select_alternatives_put sequence within others next after).1 ≡ (select_alternatives_put sequence within (a ∷ others) next before).1)
   select_alternatives_begun a others before after one made more nothing step more-is =
-      select_alternatives_more a (a ∷ others) others before after one made more (select_alternatives_put sequence within (a ∷ others) next before) step refl more-is refl
+      select_alternatives_more a (a ∷ others) others before after one made more
+      (select_alternatives_put sequence within (a ∷ others) next before) step refl more-is refl
       (ap (λ ys. ys ++ (select_alternatives_put sequence within (a ∷ others) next before).1) nothing)
 
-  pub select_alternatives_further : (a : SelectAlternative Q) (all slice : List (SelectAlternative Q)) (i : ℕ) (before after : Lists) (one : GuardedAlternative) (made more : List GuardedAlternative) (whole : Lists × List GuardedAlternative)
+  pub select_alternatives_further : (a : SelectAlternative Q) (all slice : List (SelectAlternative Q)) (i : ℕ) (before after : Lists) (one : GuardedAlternative)
+      (made more : List GuardedAlternative) (whole : Lists × List GuardedAlternative)
       → slice ≡ all → i < length slice → a ≡ get_or slice i a → select_alternative_put sequence within a next before ≡ (after, one) → more ≡ made ++ one ∷ []
-      → (select_alternatives_put sequence within (drop i all) next before).0 ≡ whole.0 → made ++ (select_alternatives_put sequence within (drop i all) next before).1 ≡ whole.1
-      → ((select_alternatives_put sequence within (drop (i + 1) all) next after).0 ≡ whole.0) × (more ++ (select_alternatives_put sequence within (drop (i + 1) all) next after).1 ≡ whole.1)
+      → (select_alternatives_put sequence within (drop i all) next before).0 ≡ whole.0
+      → made ++ (select_alternatives_put sequence within (drop i all) next before).1 ≡ whole.1
+      → ((select_alternatives_put sequence within (drop (i + 1) all) next after).0 ≡ whole.0)
+      × (more ++ (select_alternatives_put sequence within (drop (i + 1) all) next after).1 ≡ whole.1)
   select_alternatives_further a all slice i before after one made more whole slice-is inside is step more-is lists-are made-are =
-      select_alternatives_more a (drop i all) (drop (i + 1) all) before after one made more whole step (cut_of all slice i a slice-is inside is) more-is lists-are made-are
+      select_alternatives_more a (drop i all) (drop (i + 1) all) before after one made more whole step
+      (cut_of all slice i a slice-is inside is) more-is lists-are made-are

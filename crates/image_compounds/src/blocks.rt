@@ -1,6 +1,7 @@
 //! Blocks, exception handlers and accept statements (ISO/IEC 8652:2012, 5.6, 11.2, 9.5.2).
 ghost use Rattle.ada_image.specs.Made.{Made};
-ghost use Rattle.ada_image.specs.ImageOfStatements.{block_put, handlers_put, accept_body_put, accept_put};
+ghost use Rattle.ada_image.specs.ImageOfStatements.{block_put, handlers_put};
+ghost use Rattle.ada_image.specs.ImageOfStatements.{accept_body_put, accept_put};
 ghost use Rattle.image_compounds.specs.Parts.{handler_made};
 
 use crate::branches::inside;

@@ -1,7 +1,9 @@
-//! If and case statements, with the statements in them, become actions (ISO/IEC 8652:2012, 5.3, 5.4).
+//! If and case statements, with the statements in them, become actions (ISO/IEC 8652:2012, 5.3,
+//! 5.4).
 ghost use Rattle.std.specs.Prelude.{◌∷◌};
 ghost use Rattle.ada_image.specs.Made.{Made};
-ghost use Rattle.ada_image.specs.ImageOfStatements.{inside, inside_if, branch_put, elsifs_put, if_put, alternatives_put, case_put};
+ghost use Rattle.ada_image.specs.ImageOfStatements.{inside, inside_if, branch_put, elsifs_put};
+ghost use Rattle.ada_image.specs.ImageOfStatements.{if_put, alternatives_put, case_put};
 ghost use Rattle.image_compounds.specs.Parts.{alternative_made};
 
 use crate::making::MakeSequence;

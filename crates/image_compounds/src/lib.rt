@@ -1,6 +1,7 @@
-//! Compound statements of the image of a source, with what stands in them (ISO/IEC 8652:2012, 5.3 to 5.6, 9.5.2, 9.7, 11.2): what
-//! stands inside leads to what comes behind the whole. Each function has the name of the definition of `ada_image` of which it
-//! is the counterpart. A number that its type cannot hold is answered as want of memory.
+//! Compound statements of the image of a source, with what stands in them (ISO/IEC 8652:2012, 5.3
+//! to 5.6, 9.5.2, 9.7, 11.2): what stands inside leads to what comes behind the whole. Each
+//! function has the name of the definition of `ada_image` of which it is the counterpart. A number
+//! that its type cannot hold is answered as want of memory.
 #![tactic(auto)]
 
 mod blocks;

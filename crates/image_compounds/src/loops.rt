@@ -1,7 +1,8 @@
 //! Loops (ISO/IEC 8652:2012, 5.5): the body leads back to the loop's statement.
 ghost use Rattle.std.specs.Prelude.{Some};
 ghost use Rattle.ada_image.specs.Made.{Made};
-ghost use Rattle.ada_image.specs.ImageOfStatements.{inside, loop_body, forever_put, while_put, for_put, iteration_put, loop_put};
+ghost use Rattle.ada_image.specs.ImageOfStatements.{inside, loop_body, forever_put, while_put};
+ghost use Rattle.ada_image.specs.ImageOfStatements.{for_put, iteration_put, loop_put};
 
 use crate::branches::inside;
 use crate::making::MakeSequence;

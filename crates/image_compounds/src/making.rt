@@ -4,8 +4,8 @@ use ann_base::NoMemory;
 use profile_image::StatementNo;
 use std::alloc::Global;
 
-/// What is a sequence of statements (ISO/IEC 8652:2012, 5.1, 3.11). A crate that makes sequences names itself by a type `W` of its
-/// own.
+/// What is a sequence of statements (ISO/IEC 8652:2012, 5.1, 3.11). A crate that makes sequences
+/// names itself by a type `W` of its own.
 pub trait MakeSequence<W> {
     ghost use Rattle.ada_image.specs.Made.{Made};
     ghost use Rattle.ada_image.specs.ImageOfStatements.{SequenceMaking};

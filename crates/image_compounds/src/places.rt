@@ -4,7 +4,8 @@ ghost use Rattle.std.specs.Prelude.{◌≡◌};
 use ada_image::Within;
 use image_layout::in_scope;
 
-/// The same place. As a value, it is passed on with lists that do not live as long as those of the place do.
+/// The same place. As a value, it is passed on with lists that do not live as long as those of the
+/// place do.
 pub fn same_place<'n, 't>(within: &Within<'n, 't>) -> Within<'n, 't>
     ensures { result ≡ within.now }
 {

@@ -1,8 +1,14 @@
-//! Select statements (ISO/IEC 8652:2012, 9.7): an accept, a delay and a call have statements of their own, which lead to those
-//! behind them.
+//! Select statements (ISO/IEC 8652:2012, 9.7): an accept, a delay and a call have statements of
+//! their own, which lead to those behind them.
 ghost use Rattle.std.specs.Prelude.{◌∷◌};
 ghost use Rattle.ada_image.specs.Made.{Made};
-ghost use Rattle.ada_image.specs.ImageOfStatements.{guard_of, alternative_put, select_alternative_put, select_alternatives_put, signs_in_alternatives, else_put, selective_accept_put, call_before, delay_before, timed_call_put, conditional_call_put, trigger_put, asynchronous_put, select_put};
+ghost use Rattle.ada_image.specs.ImageOfStatements.{guard_of, alternative_put};
+ghost use Rattle.ada_image.specs.ImageOfStatements.{select_alternative_put};
+ghost use Rattle.ada_image.specs.ImageOfStatements.{select_alternatives_put, signs_in_alternatives};
+ghost use Rattle.ada_image.specs.ImageOfStatements.{else_put, selective_accept_put, call_before};
+ghost use Rattle.ada_image.specs.ImageOfStatements.{delay_before, timed_call_put};
+ghost use Rattle.ada_image.specs.ImageOfStatements.{conditional_call_put, trigger_put};
+ghost use Rattle.ada_image.specs.ImageOfStatements.{asynchronous_put, select_put};
 
 use crate::blocks::accept_put;
 use crate::branches::{inside, inside_if};

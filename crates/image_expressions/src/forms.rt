@@ -2,7 +2,9 @@
 //! minus before a literal is part of its value.
 ghost use Rattle.std.specs.Prelude.{◌≡◌, option_copied};
 ghost use Rattle.ada_image.specs.Made.{Made};
-ghost use Rattle.ada_image.specs.ImageOfExpressions.{expression_image, expression_made, optional_value, item_made, denoted_made, named_made};
+ghost use Rattle.ada_image.specs.ImageOfExpressions.{expression_image, expression_made};
+ghost use Rattle.ada_image.specs.ImageOfExpressions.{optional_value, item_made};
+ghost use Rattle.ada_image.specs.ImageOfExpressions.{denoted_made, named_made};
 
 use crate::functions::function_made;
 use crate::images::Imaged;

@@ -3,7 +3,9 @@
 ghost use Rattle.std.specs.Prelude.{◌≡◌, option_copied, option_map};
 ghost use Rattle.ada_regions.specs.PredefinedUnits.{names_of_formals};
 ghost use Rattle.ada_image.specs.Made.{Made};
-ghost use Rattle.ada_image.specs.ImageOfExpressions.{actuals_for, image_or_none, optional_made, span_made, name_in, thing_in, images_for, function_made};
+ghost use Rattle.ada_image.specs.ImageOfExpressions.{actuals_for, image_or_none};
+ghost use Rattle.ada_image.specs.ImageOfExpressions.{optional_made, span_made, name_in};
+ghost use Rattle.ada_image.specs.ImageOfExpressions.{thing_in, images_for, function_made};
 
 use crate::images::Imaged;
 use ada_image::{Lists, Within};

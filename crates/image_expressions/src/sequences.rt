@@ -1,6 +1,8 @@
 //! Operators of one level are made, from left to right (ISO/IEC 8652:2012, 4.5).
 ghost use Rattle.ada_image.specs.Made.{Made};
-ghost use Rattle.ada_image.specs.ImageOfExpressions.{operands_made, addends_made, factors_made, logical_made, relational_made, adding_made, multiplying_made};
+ghost use Rattle.ada_image.specs.ImageOfExpressions.{operands_made, addends_made, factors_made};
+ghost use Rattle.ada_image.specs.ImageOfExpressions.{logical_made, relational_made};
+ghost use Rattle.ada_image.specs.ImageOfExpressions.{adding_made, multiplying_made};
 
 use crate::images::Imaged;
 use crate::values::binary_put;

@@ -12,7 +12,9 @@ in_turn true b c = refl
 in_turn false b c = refl
 
 module _ {Q : Type 0} (sequence : Q → Built) (n : Names) where
-  pub declarations_joined : (ds es : List (Declaration Q)) → declarations_built sequence (ds ++ es) n ≡ (declarations_built sequence ds n && declarations_built sequence es n)
+  pub declarations_joined : (ds es : List (Declaration Q))
+      → declarations_built sequence (ds ++ es) n ≡ (declarations_built sequence ds n && declarations_built sequence es n)
   declarations_joined [] es = refl
   declarations_joined (d ∷ ds) es =
-      ap (λ b. declaration_built sequence d n && b) (declarations_joined ds es) ∙ in_turn (declaration_built sequence d n) (declarations_built sequence ds n) (declarations_built sequence es n)
+      ap (λ b. declaration_built sequence d n && b) (declarations_joined ds es)
+      ∙ in_turn (declaration_built sequence d n) (declarations_built sequence ds n) (declarations_built sequence es n)

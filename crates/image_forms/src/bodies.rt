@@ -1,6 +1,7 @@
 //! Declarations, and the bodies among them (ISO/IEC 8652:2012, 3.11, 6.3, 9.1, 9.4).
 ghost use Rattle.std.specs.Prelude.{◌≡◌};
-ghost use Rattle.ada_image.specs.BuiltSequences.{operation_body_built, operations_built, declaration_built, declarations_built};
+ghost use Rattle.ada_image.specs.BuiltSequences.{operation_body_built, operations_built};
+ghost use Rattle.ada_image.specs.BuiltSequences.{declaration_built, declarations_built};
 
 use crate::forms::SequenceHasForm;
 use ada_regions::Names;

@@ -1,6 +1,9 @@
-//! The parts of if and case statements, handlers and accepts (ISO/IEC 8652:2012, 5.3, 5.4, 9.5.2, 11.2).
+//! The parts of if and case statements, handlers and accepts (ISO/IEC 8652:2012, 5.3, 5.4, 9.5.2,
+//! 11.2).
 ghost use Rattle.std.specs.Prelude.{◌≡◌, ◌∷◌};
-ghost use Rattle.ada_image.specs.BuiltSequences.{sequence_if_built, elsif_built, elsifs_built, case_alternative_built, alternatives_built, handlers_built, accept_body_built};
+ghost use Rattle.ada_image.specs.BuiltSequences.{sequence_if_built, elsif_built, elsifs_built};
+ghost use Rattle.ada_image.specs.BuiltSequences.{case_alternative_built, alternatives_built};
+ghost use Rattle.ada_image.specs.BuiltSequences.{handlers_built, accept_body_built};
 
 use crate::forms::SequenceHasForm;
 use crate::simple::choices_built;

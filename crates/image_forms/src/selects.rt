@@ -3,7 +3,8 @@ ghost use Rattle.std.specs.Prelude.{◌≡◌, ◌∷◌};
 ghost use Rattle.ada_tree.specs.declared.selects.SelectForm.TheVariants as selecting;
 ghost use Rattle.ada_image.specs.ImageOfStatements.{guard_of};
 ghost use Rattle.ada_image.specs.BuiltStatements.{value_if_there};
-ghost use Rattle.ada_image.specs.BuiltSequences.{alternative_built, select_alternative_built, select_alternatives_built, select_built};
+ghost use Rattle.ada_image.specs.BuiltSequences.{alternative_built, select_alternative_built};
+ghost use Rattle.ada_image.specs.BuiltSequences.{select_alternatives_built, select_built};
 
 use crate::branches::{accept_body_built, sequence_if_built};
 use crate::forms::SequenceHasForm;

@@ -1,6 +1,9 @@
-//! Assignments, choices of case statements, iterations and triggers (ISO/IEC 8652:2012, 5.2, 5.4, 5.5, 9.7.4).
+//! Assignments, choices of case statements, iterations and triggers (ISO/IEC 8652:2012, 5.2, 5.4,
+//! 5.5, 9.7.4).
 ghost use Rattle.std.specs.Prelude.{◌≡◌, ◌∷◌};
-ghost use Rattle.ada_image.specs.BuiltStatements.{whole_built, assignment_built, choice_value_built, choice_built, choices_built, iteration_built, trigger_built};
+ghost use Rattle.ada_image.specs.BuiltStatements.{whole_built, assignment_built};
+ghost use Rattle.ada_image.specs.BuiltStatements.{choice_value_built, choice_built};
+ghost use Rattle.ada_image.specs.BuiltStatements.{choices_built, iteration_built, trigger_built};
 
 use ada_regions::{Names, Subtype};
 use ada_subtypes::{static_value, subtype_of_name};

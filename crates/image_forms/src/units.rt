@@ -46,8 +46,8 @@ fn packages_built(packages: &[LibraryPackage], names: &Names<'_>) -> bool
         .all(|library| package_built(&library.package, names))
 }
 
-/// Whether each expression, call, assignment and other part of a source has a form in an image, given what its names
-/// denote.
+/// Whether each expression, call, assignment and other part of a source has a form in an image,
+/// given what its names denote.
 pub fn unit_built(unit: &Unit, names: &Names<'_>) -> bool
     ensures { result ≡ unit_built unit.now names.now }
 {

@@ -26,15 +26,19 @@ unfolding one_then declarations_made
 declaration_first within before d ds lists = refl
 
 -- the declarations of a table, where those from a place on are given
-pub declaration_more : (within : Within) (table : List NumberedDeclaration) (n : ℕ) (d : NumberedDeclaration) (all ds : List NumberedDeclaration) (before after : Lists) (one : Declaration) (made more : List Declaration) (whole : Lists × List Declaration)
+pub declaration_more : (within : Within) (table : List NumberedDeclaration) (n : ℕ) (d : NumberedDeclaration) (all ds : List NumberedDeclaration)
+    (before after : Lists) (one : Declaration) (made more : List Declaration) (whole : Lists × List Declaration)
     → declaration_made within (take n table) d before ≡ (after, one) → drop n table ≡ d ∷ ds → all ≡ d ∷ ds → more ≡ made ++ one ∷ []
     → (declarations_made within (take n table) all before).0 ≡ whole.0 → made ++ (declarations_made within (take n table) all before).1 ≡ whole.1
     → ((declarations_made within (take (n + 1) table) ds after).0 ≡ whole.0) × (more ++ (declarations_made within (take (n + 1) table) ds after).1 ≡ whole.1)
 declaration_more within table n d all ds before after one made more whole is-made cut all-is more-is lists-are made-are =
     let next : take (n + 1) table ≡ take n table ++ d ∷ [] = one_more table n d ds cut in
     let step = list_more (declaration_made within (take n table) d) (declarations_made within (take n table ++ d ∷ []) ds) before after one made is-made in
-    let first : one_then (declaration_made within (take n table) d) (declarations_made within (take n table ++ d ∷ []) ds) before ≡ declarations_made within (take n table) all before =
+    let first : one_then (declaration_made within (take n table) d) (declarations_made within (take n table ++ d ∷ []) ds) before
+    ≡ declarations_made within (take n table) all before =
     declaration_first within (take n table) d ds before ∙ ap (λ xs. declarations_made within (take n table) xs before) (sym all-is) in (
       ap (λ xs. (declarations_made within xs ds after).0) next ∙ step.0 ∙ ap (λ (r : Lists × List Declaration). r.0) first ∙ lists-are,
-      ap (λ us. us ++ (declarations_made within (take (n + 1) table) ds after).1) more-is ∙ ap (λ xs. (made ++ one ∷ []) ++ (declarations_made within xs ds after).1) next ∙ step.1 ∙ ap (λ (r : Lists × List Declaration). made ++ r.1) first ∙ made-are,
+      ap (λ us. us ++ (declarations_made within (take (n + 1) table) ds after).1) more-is
+          ∙ ap (λ xs. (made ++ one ∷ []) ++ (declarations_made within xs ds after).1) next ∙ step.1 ∙ ap (λ (r : Lists × List Declaration). made ++ r.1) first
+          ∙ made-are,
     )

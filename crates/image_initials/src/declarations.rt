@@ -1,6 +1,7 @@
 //! The declarations of the image, by number (ISO/IEC 8652:2012, 3.1).
 ghost use Rattle.std.specs.Prelude.{◌≡◌, [], IfOk, option_copied, take};
-ghost use Rattle.ada_image.specs.ImageOfUnits.{declaration_made, declarations_made, numbered_object};
+ghost use Rattle.ada_image.specs.ImageOfUnits.{declaration_made};
+ghost use Rattle.ada_image.specs.ImageOfUnits.{declarations_made, numbered_object};
 ghost use Rattle.ada_image.specs.Made.{Made};
 
 use crate::initial_values::initial_made;

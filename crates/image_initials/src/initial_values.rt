@@ -1,7 +1,8 @@
 //! Initial values (ISO/IEC 8652:2012, 3.3.1).
 ghost use Rattle.std.specs.Prelude.{◌≡◌, is_some, option_copied};
 ghost use Rattle.ada_image.specs.ImageOfCalls.{function_call};
-ghost use Rattle.ada_image.specs.ImageOfUnits.{initial_made, initial_of_call, scalar_initial, scalar_or_array};
+ghost use Rattle.ada_image.specs.ImageOfUnits.{initial_made, initial_of_call};
+ghost use Rattle.ada_image.specs.ImageOfUnits.{scalar_initial, scalar_or_array};
 ghost use Rattle.ada_image.specs.Made.{Made};
 
 use ada_image::{Lists, Within};

@@ -1,6 +1,7 @@
 //! What a declaration declares, and the range of its values (ISO/IEC 8652:2012, 3.1, 3.5).
 ghost use Rattle.std.specs.Prelude.{◌≡◌};
-ghost use Rattle.ada_image.specs.ImageOfUnits.{kind_of_sort, kind_of_subtype, kind_of_type, kind_with_task, range_if_value, range_of_sort};
+ghost use Rattle.ada_image.specs.ImageOfUnits.{kind_of_sort, kind_of_subtype, kind_of_type};
+ghost use Rattle.ada_image.specs.ImageOfUnits.{kind_with_task, range_if_value, range_of_sort};
 
 use ada_regions::{AdaType, Names, Sort, Subtype};
 use image_layout::{range_of_cells, subtype_is_thing};

@@ -1,5 +1,6 @@
 -- The laws of what legality reads.
-use Rattle.std.specs.Prelude.{◌≡◌, Bool, IsTrue, true, false, not, is_some, ◌&&◌, List, [], Option, Some, None, ◌++◌, map}
+use Rattle.std.specs.Prelude.{◌≡◌, Bool, IsTrue, true, false, not, is_some}
+use Rattle.std.specs.Prelude.{◌&&◌, List, [], Option, Some, None, ◌++◌, map}
 use Rattle.ann_base.specs.declared.places.Place.{Place}
 use Rattle.ada_tree.specs.declared.statements.Assignment.{Assignment}
 use Rattle.ada_tree.specs.declared.statements.Call.{Call}
@@ -26,9 +27,11 @@ use Rattle.ada_legality.specs.Choices.{case_judged}
 use Rattle.ada_legality.specs.Faults.{faults_in}
 use Rattle.ada_legality.specs.Reading.{actuals_judged, calls_function, expected}
 use Rattle.ada_legality.specs.ReadExpressions.{arguments_read, read_expression}
-use Rattle.ada_legality.specs.SimpleStatements.{assignment_found, delay_found, function_around, iteration_found, result_expected, return_found, type_of_index_of, typed_target}
+use Rattle.ada_legality.specs.SimpleStatements.{assignment_found, delay_found, function_around, iteration_found}
+use Rattle.ada_legality.specs.SimpleStatements.{result_expected, return_found, type_of_index_of, typed_target}
 use Rattle.ada_image.specs.BuiltExpressions.{expression_built, kind_of}
-use Rattle.ada_image.specs.BuiltStatements.{arguments_built, assignment_built, call_in, call_statement_built, iteration_built, source_built, source_if_there}
+use Rattle.ada_image.specs.BuiltStatements.{arguments_built, assignment_built, call_in, call_statement_built}
+use Rattle.ada_image.specs.BuiltStatements.{iteration_built, source_built, source_if_there}
 use Rattle.image_laws.specs.Clear.{Clear, has_values, arguments_clear, expression_clear, formals_clear}
 
 -- An expression of clear names in which no rule is broken, of a type of values, is built, where it does not call a

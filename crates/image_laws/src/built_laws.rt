@@ -1,22 +1,29 @@
-//! Laws of sources that legality reads: what stands in them is built, so that an image has a form for it.
+//! Laws of sources that legality reads: what stands in them is built, so that an image has a form
+//! for it.
 //!
-//! `specs/Clear` says of an expression that the table of names is whole where its names stand. `proofs/Forms/Nothing` takes
-//! apart what is found where no rule is broken, `Operators` says of which types the operands of operators are,
-//! `Actuals` that a predefined function has its actuals, and `Denotations` and `Expressions` go through the forms
-//! beside what legality reads in them. `StatementValues` has the places of statements where values stand,
-//! `FormalNames`, `Variables` and `Calls` the actuals of calls, `Texts`, `Formals`, `Moments` and
-//! `Procedures` the calls of predefined procedures, `Sources` the calls of functions, and
-//! `Assignments` assignments and returns.
-ghost use Rattle.image_laws.specs.Laws.{ExpectedExpressionsBuilt, ReadActualsBuilt, ReadAssignmentsBuilt, ReadCallsBuilt, ReadConditionsBuilt, ReadDelaysBuilt, ReadExpressionsBuilt, ReadIterationsBuilt, ReadProceduresBuilt, ReadReturnsBuilt, ReadSelectorsBuilt, ReadSourcesBuilt};
+//! `specs/Clear` says of an expression that the table of names is whole where its names stand.
+//! `proofs/Forms/Nothing` takes apart what is found where no rule is broken, `Operators` says of
+//! which types the operands of operators are, `Actuals` that a predefined function has its actuals,
+//! and `Denotations` and `Expressions` go through the forms beside what legality reads in them.
+//! `StatementValues` has the places of statements where values stand, `FormalNames`, `Variables`
+//! and `Calls` the actuals of calls, `Texts`, `Formals`, `Moments` and `Procedures` the calls of
+//! predefined procedures, `Sources` the calls of functions, and `Assignments` assignments and
+//! returns.
+ghost use Rattle.image_laws.specs.Laws.{ExpectedExpressionsBuilt, ReadActualsBuilt};
+ghost use Rattle.image_laws.specs.Laws.{ReadAssignmentsBuilt, ReadCallsBuilt, ReadConditionsBuilt};
+ghost use Rattle.image_laws.specs.Laws.{ReadDelaysBuilt, ReadExpressionsBuilt};
+ghost use Rattle.image_laws.specs.Laws.{ReadIterationsBuilt, ReadProceduresBuilt};
+ghost use Rattle.image_laws.specs.Laws.{ReadReturnsBuilt, ReadSelectorsBuilt, ReadSourcesBuilt};
 
-/// Each expression of clear names in which no rule is broken, which has a type of values and is not the call of a function of
-/// the source, is built.
+/// Each expression of clear names in which no rule is broken, which has a type of values and is not
+/// the call of a function of the source, is built.
 #[tactic(auto, using(crate::proofs::Forms::Expressions::read_expressions_built))]
 pub fn read_expressions_built()
     ensures { ReadExpressionsBuilt }
 {}
 
-/// Each expression of clear names that stands where a value of some type is expected, and breaks no rule there, is built.
+/// Each expression of clear names that stands where a value of some type is expected, and breaks no
+/// rule there, is built.
 #[tactic(auto, using(crate::proofs::Forms::Expressions::expected_expressions_built))]
 pub fn expected_expressions_built()
     ensures { ExpectedExpressionsBuilt }
@@ -46,7 +53,8 @@ pub fn read_selectors_built()
     ensures { ReadSelectorsBuilt }
 {}
 
-/// The actuals of each call of what the source declares, of clear names, that break no rule are built.
+/// The actuals of each call of what the source declares, of clear names, that break no rule are
+/// built.
 #[tactic(auto, using(crate::proofs::Forms::Calls::read_actuals_built))]
 pub fn read_actuals_built()
     ensures { ReadActualsBuilt }
@@ -65,7 +73,8 @@ pub fn read_procedures_built()
     ensures { ReadProceduresBuilt }
 {}
 
-/// Each value that stands where a function of the source may be called, of clear names, is built, where it breaks no rule.
+/// Each value that stands where a function of the source may be called, of clear names, is built,
+/// where it breaks no rule.
 #[tactic(auto, using(crate::proofs::Forms::Sources::read_sources_built))]
 pub fn read_sources_built()
     ensures { ReadSourcesBuilt }

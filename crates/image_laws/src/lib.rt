@@ -1,5 +1,5 @@
-//! Laws of images. `whole_images` has that nothing of a source is lost in what is made of it, and nothing is added, and `built_laws`
-//! that what legality reads in a source has a form in an image.
+//! Laws of images. `whole_images` has that nothing of a source is lost in what is made of it, and
+//! nothing is added, and `built_laws` that what legality reads in a source has a form in an image.
 #![tactic(auto)]
 
 mod built_laws;

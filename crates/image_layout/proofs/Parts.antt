@@ -11,7 +11,8 @@ there x y [] a b = refl
 there x y (z ∷ rest) a b = there y z rest a b
 
 -- the parts so far, then one more
-before_next : (last x : Identifier) (rest : List Identifier) (before : Option Identifier) → option_or (before_last last (x ∷ rest)) before ≡ option_or (before_last x rest) (Some last)
+before_next : (last x : Identifier) (rest : List Identifier) (before : Option Identifier)
+    → option_or (before_last last (x ∷ rest)) before ≡ option_or (before_last x rest) (Some last)
 before_next last x [] before = refl
 before_next last x (y ∷ rest) before = there x y rest before (Some last)
 

@@ -1,8 +1,9 @@
-//! What is made is put at the end of its list, and named by its number there. A statement that others lead back to gets its
-//! number first, and is put there later.
+//! What is made is put at the end of its list, and named by its number there. A statement that
+//! others lead back to gets its number first, and is put there later.
 ghost use Rattle.std.specs.Prelude.{◌≡◌, IfOk, slice_set};
 ghost use Rattle.ada_image.specs.Made.{Made};
-ghost use Rattle.ada_image.specs.Making.{value_put, action_put, reserved, put_at, first_put, the_action};
+ghost use Rattle.ada_image.specs.Making.{value_put, action_put, reserved};
+ghost use Rattle.ada_image.specs.Making.{put_at, first_put, the_action};
 
 use ada_image::{FirstAction, Lists};
 use ann_base::NoMemory;

@@ -1,6 +1,8 @@
 //! Operators (ISO/IEC 8652:2012, 4.5).
 ghost use Rattle.std.specs.Prelude.{◌≡◌};
-ghost use Rattle.ada_image.specs.ImageOfExpressions.{logical_operator, relational_operator, adding_operator, multiplying_operator, highest_operator};
+ghost use Rattle.ada_image.specs.ImageOfExpressions.{logical_operator, relational_operator};
+ghost use Rattle.ada_image.specs.ImageOfExpressions.{adding_operator, multiplying_operator};
+ghost use Rattle.ada_image.specs.ImageOfExpressions.{highest_operator};
 
 use ada_tree::{
     AddingOperator, HighestOperator, LogicalOperator, MultiplyingOperator, RelationalOperator,

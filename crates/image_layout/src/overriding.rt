@@ -1,4 +1,5 @@
-//! The parameters of the procedures that override the operations of controlled types (ISO/IEC 8652:2012, 7.6).
+//! The parameters of the procedures that override the operations of controlled types (ISO/IEC
+//! 8652:2012, 7.6).
 ghost use Rattle.std.specs.Prelude.{◌≡◌};
 ghost use Rattle.ada_image.specs.Layout.{subtype_is};
 ghost use Rattle.ada_image.specs.UnitsOfImage.{has_one_of_type, is_derived, is_in_out, is_of_type};

@@ -1,4 +1,5 @@
-//! Which declarations have cells where: in a scope, or among the components of an owner (ISO/IEC 8652:2012, 3.8, 9.4).
+//! Which declarations have cells where: in a scope, or among the components of an owner (ISO/IEC
+//! 8652:2012, 3.8, 9.4).
 ghost use Rattle.std.specs.Prelude.{◌≡◌};
 ghost use Rattle.ada_image.specs.Layout.{same_owner, is_component_of, stands_in_scope, is_in_scope};
 

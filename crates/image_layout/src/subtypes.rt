@@ -1,7 +1,8 @@
 //! Kinds of types, and the ranges of cells (ISO/IEC 8652:2012, 3.5, 3.6).
 ghost use Rattle.std.specs.Prelude.{◌≡◌, slice_get};
 ghost use Rattle.ada_regions.specs.TypeKinds.{is_array_type};
-ghost use Rattle.ada_image.specs.Layout.{is_thing, is_kept, subtype_is, array_of, cell_subtype, range_of_cells, index_range};
+ghost use Rattle.ada_image.specs.Layout.{is_thing, is_kept, subtype_is, array_of};
+ghost use Rattle.ada_image.specs.Layout.{cell_subtype, range_of_cells, index_range};
 
 use ada_regions::{AdaType, ArrayType, Names, Subtype, is_array_type};
 use profile_image::Constraint;

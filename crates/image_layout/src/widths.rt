@@ -1,7 +1,10 @@
-//! How many cells a declaration takes: a scalar has one, an array one for each component, a protected object 16 and a
-//! controlled one 1 more than its components; a loop has two (this profile's).
+//! How many cells a declaration takes: a scalar has one, an array one for each component, a
+//! protected object 16 and a controlled one 1 more than its components; a loop has two (this
+//! profile's).
 ghost use Rattle.std.specs.Prelude.{◌≡◌, suc, ◌+◌, ◌-◌, IfOk};
-ghost use Rattle.ada_image.specs.Layout.{width_between, truth_width, width, width_of_array, width_of_subtype, width_of_components, width_of_type, width_of_object, cells_of_sort, cells_of_declaration};
+ghost use Rattle.ada_image.specs.Layout.{width_between, truth_width, width, width_of_array};
+ghost use Rattle.ada_image.specs.Layout.{width_of_subtype, width_of_components, width_of_type};
+ghost use Rattle.ada_image.specs.Layout.{width_of_object, cells_of_sort, cells_of_declaration};
 
 use crate::places::is_component_of;
 use crate::subtypes::{array_at, array_of};

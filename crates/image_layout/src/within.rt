@@ -1,7 +1,8 @@
 //! Where a statement stands.
 ghost use Rattle.std.specs.Prelude.{◌≡◌, ◌∷◌, IfOk};
 ghost use Rattle.std.specs.List.{cons_option};
-ghost use Rattle.ada_image.specs.Making.{nothing_made, in_body_of, in_construct, in_scope, in_handler};
+ghost use Rattle.ada_image.specs.Making.{nothing_made, in_body_of};
+ghost use Rattle.ada_image.specs.Making.{in_construct, in_scope, in_handler};
 ghost use Rattle.ada_image.specs.ImageOfUnits.{outermost};
 
 use ada_image::{ListOf, Lists, NamesOf, OpenLoop, Within};

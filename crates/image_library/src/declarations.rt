@@ -1,4 +1,5 @@
-//! The actions of the declarations of library packages, and whether these make tasks (ISO/IEC 8652:2012, 7.1, 7.2, 9.2, 10.2).
+//! The actions of the declarations of library packages, and whether these make tasks (ISO/IEC
+//! 8652:2012, 7.1, 7.2, 9.2, 10.2).
 ghost use Rattle.std.specs.Prelude.{◌≡◌, ◌++◌, [], unwrap_or, IfOk};
 ghost use Rattle.ada_image.specs.Made.{Made};
 ghost use Rattle.ada_image.specs.ImageOfDeclarations.{declarations_put, make_tasks};

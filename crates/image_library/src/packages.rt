@@ -1,7 +1,8 @@
-//! Library packages (ISO/IEC 8652:2012, 7.1, 7.2, 10.2): each has a number, the same for its declaration and its body, from 1
-//! on.
+//! Library packages (ISO/IEC 8652:2012, 7.1, 7.2, 10.2): each has a number, the same for its
+//! declaration and its body, from 1 on.
 ghost use Rattle.std.specs.Prelude.{◌≡◌, IfOk};
-ghost use Rattle.ada_image.specs.ImageOfUnits.{name_of_package, is_body_of, has_body, is_declaration, part_from, part_of};
+ghost use Rattle.ada_image.specs.ImageOfUnits.{name_of_package, is_body_of, has_body};
+ghost use Rattle.ada_image.specs.ImageOfUnits.{is_declaration, part_from, part_of};
 
 use ada_tree::{Identifier, LibraryPackage, Package};
 use ann_base::NoMemory;

@@ -1,4 +1,5 @@
-//! The main procedure, and the program that the machine runs, where what is made is given (ISO/IEC 8652:2012, 10.2).
+//! The main procedure, and the program that the machine runs, where what is made is given (ISO/IEC
+//! 8652:2012, 10.2).
 ghost use Rattle.std.specs.Prelude.{◌≡◌, IfOk};
 ghost use Rattle.ada_image.specs.ImageOfUnits.{main_of, program_with};
 

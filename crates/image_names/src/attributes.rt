@@ -3,7 +3,8 @@ ghost use Rattle.std.specs.Prelude.{◌≡◌, option_copied, unwrap_or, pos};
 ghost use Rattle.profile_image.specs.declared.values.Value.TheVariants as value;
 ghost use Rattle.ada_regions.specs.Statics.{attribute_value};
 ghost use Rattle.ada_image.specs.Made.{Made};
-ghost use Rattle.ada_image.specs.ImageOfExpressions.{known, no_value, count_of, count_made, attribute_made};
+ghost use Rattle.ada_image.specs.ImageOfExpressions.{known, no_value, count_of};
+ghost use Rattle.ada_image.specs.ImageOfExpressions.{count_made, attribute_made};
 
 use crate::names::{kind_named, thing_named};
 use ada_image::{Lists, Within};

@@ -1,6 +1,6 @@
-//! What names of objects denote in an image, their attributes, and what a call of a predefined function counts (ISO/IEC
-//! 8652:2012, 4.1, 4.1.3, 4.1.4, 6.4, 8.6). Each function has the name of the definition of `ada_image` of which it is the
-//! counterpart.
+//! What names of objects denote in an image, their attributes, and what a call of a predefined
+//! function counts (ISO/IEC 8652:2012, 4.1, 4.1.3, 4.1.4, 6.4, 8.6). Each function has the name of
+//! the definition of `ada_image` of which it is the counterpart.
 #![tactic(auto)]
 
 mod attributes;

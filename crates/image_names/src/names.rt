@@ -1,6 +1,10 @@
 //! What names of objects denote (ISO/IEC 8652:2012, 4.1, 4.1.3, 8.6).
 ghost use Rattle.std.specs.Prelude.{◌≡◌, option_copied, unwrap_or};
-ghost use Rattle.ada_image.specs.ImageOfExpressions.{object_number, is_around, object_outside, object_before, named_before, no_declaration_no, component_name, object_of_kind, kind_named, object_named, thing_named, thing_in};
+ghost use Rattle.ada_image.specs.ImageOfExpressions.{object_number, is_around, object_outside};
+ghost use Rattle.ada_image.specs.ImageOfExpressions.{object_before, named_before};
+ghost use Rattle.ada_image.specs.ImageOfExpressions.{no_declaration_no, component_name};
+ghost use Rattle.ada_image.specs.ImageOfExpressions.{object_of_kind, kind_named, object_named};
+ghost use Rattle.ada_image.specs.ImageOfExpressions.{thing_named, thing_in};
 
 use ada_entities::{denoted_by, entity_denoted, entity_of, kind_at};
 use ada_image::Within;

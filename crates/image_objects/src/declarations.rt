@@ -1,7 +1,8 @@
 //! The actions of declarations (ISO/IEC 8652:2012, 3.11, 9.1, 9.4).
 ghost use Rattle.std.specs.Prelude.{◌≡◌};
 ghost use Rattle.ada_image.specs.Made.{Made};
-ghost use Rattle.ada_image.specs.ImageOfDeclarations.{declaration_put, declarations_put, makes_task, make_tasks};
+ghost use Rattle.ada_image.specs.ImageOfDeclarations.{declaration_put, declarations_put};
+ghost use Rattle.ada_image.specs.ImageOfDeclarations.{makes_task, make_tasks};
 
 use crate::objects::{object_makes_task, objects_put, single_put};
 use ada_image::{Lists, Within};
@@ -43,7 +44,8 @@ fn declaration_put<Q>(
     }
 }
 
-/// The declarations of a list, each leading to the next (3.11). The part is that of a library package, or 0.
+/// The declarations of a list, each leading to the next (3.11). The part is that of a library
+/// package, or 0.
 #[tactic(auto, using(std::proofs::lemmas::List::drop_all, image_layout::proofs::Drops::one_before), unfolding(ada_image::specs::ImageOfDeclarations::declarations_put))]
 pub fn declarations_put<Q>(
     alloc: Global,

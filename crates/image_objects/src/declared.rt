@@ -2,7 +2,9 @@
 ghost use Rattle.std.specs.Prelude.{◌≡◌, option_copied};
 ghost use Rattle.ada_regions.specs.TypeKinds.{is_task_type, is_controlled_type};
 ghost use Rattle.ada_image.specs.Layout.{subtype_is};
-ghost use Rattle.ada_image.specs.ImageOfDeclarations.{kind_declared, number_declared, subtype_declared_as, subprogram_of_kind, subprogram_declared_as};
+ghost use Rattle.ada_image.specs.ImageOfDeclarations.{kind_declared, number_declared};
+ghost use Rattle.ada_image.specs.ImageOfDeclarations.{subtype_declared_as, subprogram_of_kind};
+ghost use Rattle.ada_image.specs.ImageOfDeclarations.{subprogram_declared_as};
 
 use ada_entities::{entity_denoted, kind_at};
 use ada_image::Within;

@@ -1,9 +1,14 @@
-//! Objects (ISO/IEC 8652:2012, 3.3.1): a task is created, and a controlled object is initialized behind its declaration.
+//! Objects (ISO/IEC 8652:2012, 3.3.1): a task is created, and a controlled object is initialized
+//! behind its declaration.
 ghost use Rattle.std.specs.Prelude.{◌≡◌, option_map, IfOk};
 ghost use Rattle.ada_regions.specs.Words.{all_of};
 ghost use Rattle.ada_image.specs.Made.{Made};
 ghost use Rattle.ada_image.specs.ImageOfExpressions.{signs_if};
-ghost use Rattle.ada_image.specs.ImageOfDeclarations.{signs_of_components, signs_of_type, signs_of_object, initialize_if, function_call_if, object_declaration_put, object_elaborated, object_put, objects_put, single_put, object_makes_task};
+ghost use Rattle.ada_image.specs.ImageOfDeclarations.{signs_of_components, signs_of_type};
+ghost use Rattle.ada_image.specs.ImageOfDeclarations.{signs_of_object, initialize_if};
+ghost use Rattle.ada_image.specs.ImageOfDeclarations.{function_call_if, object_declaration_put};
+ghost use Rattle.ada_image.specs.ImageOfDeclarations.{object_elaborated, object_put, objects_put};
+ghost use Rattle.ada_image.specs.ImageOfDeclarations.{single_put, object_makes_task};
 ghost use Rattle.image_actuals.specs.Shown.{call_shown};
 
 use crate::declared::{has_controlled_type, has_task_type, number_declared, subtype_declared_as};

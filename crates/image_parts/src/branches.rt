@@ -1,4 +1,5 @@
-//! The actions of if and case statements, where the statements in them are made (ISO/IEC 8652:2012, 5.3, 5.4).
+//! The actions of if and case statements, where the statements in them are made (ISO/IEC 8652:2012,
+//! 5.3, 5.4).
 ghost use Rattle.ada_image.specs.Made.{Made};
 ghost use Rattle.image_parts.specs.Parts.{case_action, if_action};
 

@@ -1,5 +1,6 @@
-//! The actions of compound statements, where the statements in them are made, and the signs that they count (ISO/IEC 8652:2012,
-//! clause 5, 9.5.2, 9.7). A number that its type cannot hold is answered as want of memory.
+//! The actions of compound statements, where the statements in them are made, and the signs that
+//! they count (ISO/IEC 8652:2012, clause 5, 9.5.2, 9.7). A number that its type cannot hold is
+//! answered as want of memory.
 #![tactic(auto)]
 
 mod branches;

@@ -2,7 +2,8 @@
 ghost use Rattle.std.specs.Prelude.{◌≡◌, ◌∷◌, ◌+◌, option_copied, IfOk};
 ghost use Rattle.ada_image.specs.CallStatements.{signs_in_actuals};
 ghost use Rattle.ada_image.specs.ImageOfExpressions.{signs_if, signs_in};
-ghost use Rattle.ada_image.specs.ImageOfStatements.{guard_of, signs_in_alternative, signs_in_alternatives, signs_in_trigger};
+ghost use Rattle.ada_image.specs.ImageOfStatements.{guard_of, signs_in_alternative};
+ghost use Rattle.ada_image.specs.ImageOfStatements.{signs_in_alternatives, signs_in_trigger};
 
 use ada_image::Within;
 use ada_tree::{

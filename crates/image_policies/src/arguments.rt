@@ -1,4 +1,5 @@
-//! Arguments of pragmas: a word, or a number. Names in pragmas are words, and no names of the source.
+//! Arguments of pragmas: a word, or a number. Names in pragmas are words, and no names of the
+//! source.
 ghost use Rattle.std.specs.Prelude.{◌≡◌, option_copied, unwrap_or, IfOk};
 ghost use Rattle.ada_regions.specs.declared.predefined.TheConstants.{LAST_PRIORITY};
 ghost use Rattle.ada_regions.specs.declared.predefined.PredefinedUnit.TheVariants as units;
@@ -6,7 +7,9 @@ ghost use Rattle.ada_regions.specs.Names.{last_part};
 ghost use Rattle.ada_regions.specs.PredefinedUnits.{item_in};
 ghost use Rattle.ada_regions.specs.Statics.{high_of, literal_value, low_of, subtype_of_item};
 ghost use Rattle.ada_regions.specs.Words.{and_then};
-ghost use Rattle.ada_image.specs.PoliciesOfImage.{bound_of, number_in_form, number_of, number_of_name, word_in_form, word_of, word_of_name};
+ghost use Rattle.ada_image.specs.PoliciesOfImage.{bound_of, number_in_form, number_of};
+ghost use Rattle.ada_image.specs.PoliciesOfImage.{number_of_name, word_in_form};
+ghost use Rattle.ada_image.specs.PoliciesOfImage.{word_of, word_of_name};
 ghost use Rattle.ada_image.specs.UnitsOfImage.{level_of};
 
 use crate::levels::level_of;
@@ -66,7 +69,8 @@ fn high_of_item(item: Predefined) -> Option<Value>
     high_of(subtype.range)
 }
 
-/// What package Standard declares under the last part of a name, where the range of priorities is the plain one.
+/// What package Standard declares under the last part of a name, where the range of priorities is
+/// the plain one.
 fn item_of_standard(name: &Name) -> Option<Predefined>
     ensures { result ≡ item_in LAST_PRIORITY units.Standard (last_part name.now).text }
 {

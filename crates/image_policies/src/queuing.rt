@@ -1,7 +1,10 @@
 //! Entry queuing policies, and the longest queue (ISO/IEC 8652:2012, D.4, D.7).
-ghost use Rattle.std.specs.Prelude.{◌≡◌, IfOk, Some, None, cond, codes, false, option_map, unwrap_or};
+ghost use Rattle.std.specs.Prelude.{◌≡◌, IfOk, Some, None, cond, codes};
+ghost use Rattle.std.specs.Prelude.{false, option_map, unwrap_or};
 ghost use Rattle.std.specs.Str.{bytes_eq};
-ghost use Rattle.ada_image.specs.PoliciesOfImage.{is_longest, least_of, longest_in, longest_in_arguments, longest_of, number_of, queues_by_priority, queuing_of, word_of};
+ghost use Rattle.ada_image.specs.PoliciesOfImage.{is_longest, least_of, longest_in};
+ghost use Rattle.ada_image.specs.PoliciesOfImage.{longest_in_arguments, longest_of, number_of};
+ghost use Rattle.ada_image.specs.PoliciesOfImage.{queues_by_priority, queuing_of, word_of};
 ghost use Rattle.ada_regions.specs.Words.{all_of};
 
 use crate::arguments::{number_of, word_of};

@@ -1,8 +1,11 @@
-//! The elaboration of library units (ISO/IEC 8652:2012, 10.2): each leads to that of the later units.
+//! The elaboration of library units (ISO/IEC 8652:2012, 10.2): each leads to that of the later
+//! units.
 ghost use Rattle.std.specs.Prelude.{◌++◌, [], unwrap_or};
 ghost use Rattle.ada_image.specs.Made.{Made};
 ghost use Rattle.ada_image.specs.ImageOfDeclarations.{sequence_put, inner_bodies_put};
-ghost use Rattle.ada_image.specs.ImageOfUnits.{package_declaration_put, package_statements_put, package_body_put, package_put, packages_put, actions_made};
+ghost use Rattle.ada_image.specs.ImageOfUnits.{package_declaration_put};
+ghost use Rattle.ada_image.specs.ImageOfUnits.{package_statements_put, package_body_put};
+ghost use Rattle.ada_image.specs.ImageOfUnits.{package_put, packages_put, actions_made};
 
 use ada_image::{Lists, SequencePlace, Within};
 use ada_tree::{LibraryPackage, Package, PackageBody, PackageDeclaration, Sequence, Unit};
@@ -17,7 +20,8 @@ use image_objects::{activation_put, declarations_put};
 use profile_image::{StatementForm, StatementNo};
 use std::alloc::Global;
 
-/// The bodies among the private declarations of a package; none where `private` does not stand there.
+/// The bodies among the private declarations of a package; none where `private` does not stand
+/// there.
 #[tactic(auto, unfolding(ada_image::specs::ImageOfDeclarations::inner_bodies_put))]
 fn private_bodies_put(
     alloc: Global,

@@ -1,4 +1,5 @@
-//! The program that the machine runs, made of a source and the table of its names (ISO/IEC 8652:2012, 10.2).
+//! The program that the machine runs, made of a source and the table of its names (ISO/IEC
+//! 8652:2012, 10.2).
 ghost use Rattle.std.specs.Prelude.{◌≡◌, IfOk};
 ghost use Rattle.ada_image.specs.Made.{Made};
 ghost use Rattle.ada_image.specs.ImageOfUnits.{all_made, outermost, program_from};
@@ -16,7 +17,8 @@ use profile_image::Image;
 use std::alloc::Global;
 use world_tables::List;
 
-/// All that has numbers of its own is made: the actions, the deadlines of task units, the barriers, and the initial values.
+/// All that has numbers of its own is made: the actions, the deadlines of task units, the barriers,
+/// and the initial values.
 #[tactic(auto, unfolding(ada_image::specs::ImageOfUnits::all_made))]
 fn all_made(
     alloc: Global,
@@ -54,8 +56,8 @@ fn all_made_in<'n>(
     all_made(alloc, lists, unit, &within)
 }
 
-/// The program of a source, where the table of its names is given. A number that its type cannot hold is answered as want of
-/// memory.
+/// The program of a source, where the table of its names is given. A number that its type cannot
+/// hold is answered as want of memory.
 #[tactic(auto, unfolding(ada_image::specs::ImageOfUnits::program_from))]
 pub fn program_from(alloc: Global, names: &Names<'_>, unit: &Unit) -> Result<Image, NoMemory>
     ensures { IfOk result (λ program. program ≡ program_from names.now unit.now) }

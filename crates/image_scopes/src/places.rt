@@ -1,4 +1,5 @@
-//! Where the cells of a declaration stand: behind those before it in its scope, or among the components of its owner.
+//! Where the cells of a declaration stand: behind those before it in its scope, or among the
+//! components of its owner.
 ghost use Rattle.std.specs.Prelude.{◌≡◌, IfOk, take};
 ghost use Rattle.ada_image.specs.Layout.{place_behind, stands_beside};
 

@@ -1,6 +1,9 @@
 //! The first values of a scope's cells, where they are not `Whole(0)` (ISO/IEC 8652:2012, 3.3.1).
 ghost use Rattle.std.specs.Prelude.{◌≡◌, ◌+◌, ◌++◌, IfOk, OnOk};
-ghost use Rattle.ada_image.specs.Layout.{components_of_owner, declarations_in_scope, first_value, is_plain_zero, run_of, runs_of_components, runs_of_type, runs_of_subtype, runs_of_parameter, runs_of_sort, runs_from, width_of_object, width_of_subtype};
+ghost use Rattle.ada_image.specs.Layout.{components_of_owner, declarations_in_scope, first_value};
+ghost use Rattle.ada_image.specs.Layout.{is_plain_zero, run_of, runs_of_components, runs_of_type};
+ghost use Rattle.ada_image.specs.Layout.{runs_of_subtype, runs_of_parameter, runs_of_sort};
+ghost use Rattle.ada_image.specs.Layout.{runs_from, width_of_object, width_of_subtype};
 
 use ada_regions::{AdaType, ComponentOwner, Names, Sort, Subtype};
 use ann_base::NoMemory;
@@ -169,7 +172,8 @@ fn runs_of_subtype(
     }
 }
 
-/// Adds the runs of a parameter. An object that stands for itself in it has no components of its own.
+/// Adds the runs of a parameter. An object that stands for itself in it has no components of its
+/// own.
 #[tactic(auto, unfolding(ada_image::specs::Layout::runs_of_parameter))]
 fn runs_of_parameter(
     names: &Names<'_>,

@@ -2,7 +2,9 @@
 ghost use Rattle.std.specs.Prelude.{◌≡◌, IfOk, map, option_copied, option_map};
 ghost use Rattle.std.specs.List.{list_any};
 ghost use Rattle.ada_regions.specs.Words.{and_then};
-ghost use Rattle.ada_image.specs.Layout.{cells_of_declaration, declarations_in_scope, extra_cell, first_action, keeps, runs_from, scope_made, scope_no, scopes_made, total};
+ghost use Rattle.ada_image.specs.Layout.{cells_of_declaration, declarations_in_scope};
+ghost use Rattle.ada_image.specs.Layout.{extra_cell, first_action, keeps, runs_from};
+ghost use Rattle.ada_image.specs.Layout.{scope_made, scope_no, scopes_made, total};
 
 use crate::runs::runs_from;
 use ada_image::FirstAction;

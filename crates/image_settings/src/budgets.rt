@@ -1,5 +1,5 @@
-//! The event, timer or budget that a call of a predefined procedure names, and Set_Handler of a group budget, which has no moment
-//! (ISO/IEC 8652:2012, D.14.1, D.14.2, D.15).
+//! The event, timer or budget that a call of a predefined procedure names, and Set_Handler of a
+//! group budget, which has no moment (ISO/IEC 8652:2012, D.14.1, D.14.2, D.15).
 ghost use Rattle.std.specs.Prelude.{◌≡◌, option_copied};
 ghost use Rattle.ada_regions.specs.PredefinedUnits.{names_of_formals};
 ghost use Rattle.ada_regions.specs.declared.predefined.Operation.TheVariants as operations;

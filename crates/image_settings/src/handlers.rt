@@ -1,9 +1,11 @@
-//! Handlers as actuals: `'Access` of a procedure of a protected object, or null (ISO/IEC 8652:2012, D.14.1, D.14.2, D.15).
+//! Handlers as actuals: `'Access` of a procedure of a protected object, or null (ISO/IEC 8652:2012,
+//! D.14.1, D.14.2, D.15).
 ghost use Rattle.std.specs.Prelude.{◌≡◌, option_copied};
 ghost use Rattle.ada_regions.specs.Names.{kind_at};
 ghost use Rattle.ada_regions.specs.Words.{and_then};
 ghost use Rattle.ada_image.specs.ImageOfExpressions.{object_number, kind_named};
-ghost use Rattle.ada_image.specs.ImageOfProcedures.{innermost_object, object_of_handler, handler_with, handler_in_form, handler_of};
+ghost use Rattle.ada_image.specs.ImageOfProcedures.{innermost_object, object_of_handler};
+ghost use Rattle.ada_image.specs.ImageOfProcedures.{handler_with, handler_in_form, handler_of};
 
 use ada_entities::kind_at;
 use ada_image::Within;
@@ -33,7 +35,8 @@ fn innermost_object(within: &Within<'_, '_>) -> Option<DeclNo>
     None
 }
 
-/// The object before the last part of a name, or else that of the unit in whose body the name stands.
+/// The object before the last part of a name, or else that of the unit in whose body the name
+/// stands.
 #[tactic(auto, unfolding(ada_image::specs::ImageOfProcedures::object_of_handler, ada_image::specs::ImageOfExpressions::named_before))]
 fn object_of_handler(within: &Within<'_, '_>, name: &Name) -> Option<DeclNo>
     ensures { result ≡ object_of_handler within.now name.now }

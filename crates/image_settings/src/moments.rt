@@ -1,9 +1,10 @@
-//! The moment or the span that Set_Handler of a timing event or a timer is given: a span is In_Time, a moment At_Time; a
-//! formal's name tells too (ISO/IEC 8652:2012, D.14.1, D.15).
+//! The moment or the span that Set_Handler of a timing event or a timer is given: a span is
+//! In_Time, a moment At_Time; a formal's name tells too (ISO/IEC 8652:2012, D.14.1, D.15).
 ghost use Rattle.std.specs.Prelude.{◌≡◌, false, option_copied, option_map, unwrap_or};
 ghost use Rattle.std.specs.List.{list_any};
 ghost use Rattle.ada_image.specs.TypesOfExpressions.{is_span};
-ghost use Rattle.ada_image.specs.ImageOfProcedures.{formal_is, is_called, moment_of, is_in_time, setting_with};
+ghost use Rattle.ada_image.specs.ImageOfProcedures.{formal_is, is_called, moment_of};
+ghost use Rattle.ada_image.specs.ImageOfProcedures.{is_in_time, setting_with};
 
 use crate::typing::is_span;
 use ada_image::Within;

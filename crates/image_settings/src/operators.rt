@@ -1,7 +1,9 @@
-//! The types that operators, attributes and predefined names give (ISO/IEC 8652:2012, 4.5, 4.1.4, D.8).
+//! The types that operators, attributes and predefined names give (ISO/IEC 8652:2012, 4.5, 4.1.4,
+//! D.8).
 ghost use Rattle.std.specs.Prelude.{◌≡◌, Some};
 ghost use Rattle.ada_regions.specs.declared.types.AdaType.TheVariants as types;
-ghost use Rattle.ada_image.specs.TypesOfExpressions.{type_behind_operator, type_of_attribute, type_of_item, type_of_product, type_of_sum};
+ghost use Rattle.ada_image.specs.TypesOfExpressions.{type_behind_operator, type_of_attribute};
+ghost use Rattle.ada_image.specs.TypesOfExpressions.{type_of_item, type_of_product, type_of_sum};
 
 use ada_image::type_of_operation;
 use ada_regions::{AdaType, Predefined};

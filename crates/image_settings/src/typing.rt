@@ -1,10 +1,13 @@
-//! The type of an expression, from its parts alone: no name is overloaded (ISO/IEC 8652:2012, clause 4).
+//! The type of an expression, from its parts alone: no name is overloaded (ISO/IEC 8652:2012,
+//! clause 4).
 ghost use Rattle.std.specs.Prelude.{◌≡◌, Some, cond, slice_get};
 ghost use Rattle.ada_lex.specs.Meaning.{decimals_of};
 ghost use Rattle.ada_regions.specs.Words.{all_of};
 ghost use Rattle.ann_base.specs.Lists.{is_empty};
 ghost use Rattle.ada_regions.specs.declared.types.AdaType.TheVariants as types;
-ghost use Rattle.ada_image.specs.TypesOfExpressions.{type_of_subtype, indexed, type_of_result, type_of_kind, type_denoted, type_of_addends, type_of_factors, type_of_named, is_span};
+ghost use Rattle.ada_image.specs.TypesOfExpressions.{type_of_subtype, indexed, type_of_result};
+ghost use Rattle.ada_image.specs.TypesOfExpressions.{type_of_kind, type_denoted, type_of_addends};
+ghost use Rattle.ada_image.specs.TypesOfExpressions.{type_of_factors, type_of_named, is_span};
 
 use crate::operators::{
     type_behind_operator, type_of_attribute, type_of_item, type_of_product, type_of_sum,

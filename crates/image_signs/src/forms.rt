@@ -1,4 +1,5 @@
-//! The signs in the forms of expressions (ISO/IEC 8652:2012, 4.4, 4.5). A minus before a literal is part of its value.
+//! The signs in the forms of expressions (ISO/IEC 8652:2012, 4.4, 4.5). A minus before a literal is
+//! part of its value.
 ghost use Rattle.std.specs.Prelude.{◌≡◌, IfOk};
 ghost use Rattle.ada_image.specs.ImageOfExpressions.{signs_in, signs_if};
 

@@ -3,7 +3,9 @@
 ghost use Rattle.std.specs.Prelude.{◌≡◌, ◌+◌, suc, IfOk, option_copied, option_map};
 ghost use Rattle.ada_regions.specs.Names.{denoted_by};
 ghost use Rattle.ada_regions.specs.Statics.{literal_value};
-ghost use Rattle.ada_image.specs.ImageOfExpressions.{sign_counts, call_counts, signs_in_arguments, signs_in_operands, signs_in_addends, signs_in_factors};
+ghost use Rattle.ada_image.specs.ImageOfExpressions.{sign_counts, call_counts};
+ghost use Rattle.ada_image.specs.ImageOfExpressions.{signs_in_arguments, signs_in_operands};
+ghost use Rattle.ada_image.specs.ImageOfExpressions.{signs_in_addends, signs_in_factors};
 
 use crate::counted::Counted;
 use ada_entities::denoted_by;

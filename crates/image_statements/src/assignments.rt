@@ -1,8 +1,10 @@
-//! Assignment statements (ISO/IEC 8652:2012, 5.2): of a scalar, a whole array or a controlled object, or of the value of a
-//! function's call.
+//! Assignment statements (ISO/IEC 8652:2012, 5.2): of a scalar, a whole array or a controlled
+//! object, or of the value of a function's call.
 ghost use Rattle.std.specs.Prelude.{◌≡◌, option_copied, option_map};
 ghost use Rattle.ada_image.specs.Made.{Made};
-ghost use Rattle.ada_image.specs.ImageOfStatements.{array_name, array_assigned, controlled_assigned, value_assigned, assigned_whole, assigned, assignment_put};
+ghost use Rattle.ada_image.specs.ImageOfStatements.{array_name, array_assigned};
+ghost use Rattle.ada_image.specs.ImageOfStatements.{controlled_assigned, value_assigned};
+ghost use Rattle.ada_image.specs.ImageOfStatements.{assigned_whole, assigned, assignment_put};
 ghost use Rattle.image_actuals.specs.Shown.{call_shown};
 
 use ada_image::{Lists, Within};

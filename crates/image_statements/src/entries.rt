@@ -3,7 +3,8 @@ ghost use Rattle.std.specs.Prelude.{◌≡◌, ◌∷◌, map, IfOk};
 ghost use Rattle.ada_regions.specs.Regions.{entry_number};
 ghost use Rattle.ada_image.specs.Made.{Made};
 ghost use Rattle.ada_image.specs.ImageOfExpressions.{thing_named};
-ghost use Rattle.ada_image.specs.ImageOfStatements.{entry_at, abort_put, unit_of_kind, unit_of_entry, requeue_put};
+ghost use Rattle.ada_image.specs.ImageOfStatements.{entry_at, abort_put, unit_of_kind};
+ghost use Rattle.ada_image.specs.ImageOfStatements.{unit_of_entry, requeue_put};
 
 use ada_entities::{entity_denoted, kind_at, last_part};
 use ada_image::{Lists, Within};

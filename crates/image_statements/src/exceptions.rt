@@ -1,7 +1,8 @@
 //! Raise statements, and the exceptions that names denote (ISO/IEC 8652:2012, 11.1 to 11.3).
 ghost use Rattle.std.specs.Prelude.{◌≡◌, ◌∷◌, map, IfOk};
 ghost use Rattle.ada_image.specs.Made.{Made};
-ghost use Rattle.ada_image.specs.ImageOfStatements.{raised_kind, raised_item, exception_denoted, exception_named, raise_put, handled_made};
+ghost use Rattle.ada_image.specs.ImageOfStatements.{raised_kind, raised_item, exception_denoted};
+ghost use Rattle.ada_image.specs.ImageOfStatements.{exception_named, raise_put, handled_made};
 ghost use Rattle.profile_image.specs.declared.declarations.ExceptionChoice.TheVariants as exception_choice;
 
 use ada_entities::{denoted_by, kind_at};

@@ -1,6 +1,7 @@
-//! The simple statements of the image of a source (ISO/IEC 8652:2012, 5.1), without calls, and the parts of compound ones that
-//! hold no statements. Each function has the name of the definition of `ada_image` of which it is the counterpart. A number
-//! that its type cannot hold is answered as want of memory.
+//! The simple statements of the image of a source (ISO/IEC 8652:2012, 5.1), without calls, and the
+//! parts of compound ones that hold no statements. Each function has the name of the definition of
+//! `ada_image` of which it is the counterpart. A number that its type cannot hold is answered as
+//! want of memory.
 #![tactic(auto)]
 
 mod assignments;

@@ -2,7 +2,9 @@
 ghost use Rattle.std.specs.Prelude.{◌≡◌, option_copied, option_map};
 ghost use Rattle.std.specs.List.{find};
 ghost use Rattle.ada_image.specs.Made.{Made};
-ghost use Rattle.ada_image.specs.ImageOfStatements.{delay_form, delay_put, value_returned, return_put, has_label, loop_left, loop_statement, exit_put};
+ghost use Rattle.ada_image.specs.ImageOfStatements.{delay_form, delay_put, value_returned};
+ghost use Rattle.ada_image.specs.ImageOfStatements.{return_put, has_label, loop_left};
+ghost use Rattle.ada_image.specs.ImageOfStatements.{loop_statement, exit_put};
 ghost use Rattle.ada_image.specs.ImageOfExpressions.{optional_value};
 ghost use Rattle.image_actuals.specs.Shown.{call_shown};
 

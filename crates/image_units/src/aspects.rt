@@ -42,7 +42,8 @@ fn priority_of(names: &Names<'_>, aspects: &[Aspect]) -> Option<u32>
     }
 }
 
-/// The priority that aspects give, if they give one. One that is no level is answered as want of memory.
+/// The priority that aspects give, if they give one. One that is no level is answered as want of
+/// memory.
 pub(crate) fn priority_given(
     names: &Names<'_>,
     aspects: &[Aspect],
@@ -55,7 +56,8 @@ pub(crate) fn priority_given(
     }
 }
 
-/// The priority that aspects give, or this one (D.1). One that is no level is answered as want of memory.
+/// The priority that aspects give, or this one (D.1). One that is no level is answered as want of
+/// memory.
 pub fn priority_or(names: &Names<'_>, aspects: &[Aspect], default: Level) -> Result<Level, NoMemory>
     ensures { IfOk result
         (λ priority. priority ≡ unwrap_or (priority_of names.now aspects.now) default) }

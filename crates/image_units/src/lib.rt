@@ -1,6 +1,7 @@
-//! Task and protected units, their entries, and controlled types in the image of a source (ISO/IEC 8652:2012, 7.6, 9.1, 9.4,
-//! 9.5.2, C.3.1, D.1, D.3). Each function has the name of the definition of `ada_image` of which it is the counterpart. A
-//! number that its type cannot hold is answered as want of memory.
+//! Task and protected units, their entries, and controlled types in the image of a source (ISO/IEC
+//! 8652:2012, 7.6, 9.1, 9.4, 9.5.2, C.3.1, D.1, D.3). Each function has the name of the definition
+//! of `ada_image` of which it is the counterpart. A number that its type cannot hold is answered as
+//! want of memory.
 #![tactic(auto)]
 
 mod aspects;

@@ -1,8 +1,9 @@
-//! The procedures that override the operations of controlled types: those of the same part with one `in out` parameter of
-//! the type (ISO/IEC 8652:2012, 7.6).
+//! The procedures that override the operations of controlled types: those of the same part with one
+//! `in out` parameter of the type (ISO/IEC 8652:2012, 7.6).
 ghost use Rattle.std.specs.Prelude.{◌≡◌, cond, Some, None, IfOk};
 ghost use Rattle.std.specs.Option.{option_or};
-ghost use Rattle.ada_image.specs.UnitsOfImage.{subprogram_no, has_one_of_type, overrides, overriding_from, overriding, unless_limited};
+ghost use Rattle.ada_image.specs.UnitsOfImage.{subprogram_no, has_one_of_type, overrides};
+ghost use Rattle.ada_image.specs.UnitsOfImage.{overriding_from, overriding, unless_limited};
 
 use ada_regions::{Names, NumberedControlled, NumberedSubprogram};
 use ann_base::NoMemory;

@@ -1,6 +1,7 @@
 //! Protected units (ISO/IEC 8652:2012, 9.4, C.3.1, D.3).
 ghost use Rattle.std.specs.Prelude.{◌≡◌, IfOk};
-ghost use Rattle.ada_image.specs.UnitsOfImage.{default_ceiling, protected_unit_made, protected_units_made};
+ghost use Rattle.ada_image.specs.UnitsOfImage.{default_ceiling, protected_unit_made};
+ghost use Rattle.ada_image.specs.UnitsOfImage.{protected_units_made};
 
 use crate::aspects::priority_or;
 use crate::attachments::attachments_of;
@@ -12,7 +13,8 @@ use image_layout::added;
 use profile_image::{Attachment, EntryUnit, ImageList, ProtectedUnit, ProtectedUnitNo};
 use std::alloc::Global;
 
-/// The ceiling without an aspect: the last Priority, and the one above where a handler is attached (this profile's).
+/// The ceiling without an aspect: the last Priority, and the one above where a handler is attached
+/// (this profile's).
 #[tactic(auto, unfolding(ada_image::specs::UnitsOfImage::default_ceiling))]
 fn default_ceiling(last: Level, attached: &[Attachment]) -> Result<Level, NoMemory>
     ensures { IfOk result (λ ceiling. ceiling ≡ default_ceiling last attached.now) }

@@ -38,7 +38,8 @@ fn found_in_units<'n, 't>(
     units_found(alloc, found, &known, tree)
 }
 
-/// What a walk over the source finds. The check of borrows wants the type of the limits among the parameters.
+/// What a walk over the source finds. The check of borrows wants the type of the limits among the
+/// parameters.
 #[tactic(auto, unfolding(ada_legality::specs::Faults::walked, ada_legality::specs::Units::known_of))]
 fn walked_through<'n, 't>(
     alloc: Global,
@@ -88,7 +89,8 @@ fn found_behind(
     units_used(alloc, all, pragmas, occurrences)
 }
 
-/// All that is found in a source: what its rules say it breaks, and what rules on the whole source ask of.
+/// All that is found in a source: what its rules say it breaks, and what rules on the whole source
+/// ask of.
 #[tactic(auto, unfolding(ada_legality::specs::Faults::found_of))]
 fn found_of<'n, 't>(
     alloc: Global,
@@ -128,7 +130,8 @@ fn in_one_piece(alloc: Global, found: &List<Finding>) -> Result<ImageList<Findin
     Ok(all)
 }
 
-/// The first fault of a source whose names are numbered, in the order of the text, at one place by the number of its rule.
+/// The first fault of a source whose names are numbered, in the order of the text, at one place by
+/// the number of its rule.
 #[tactic(auto, unfolding(ada_legality::specs::Faults::faults_where))]
 pub fn first_fault<'t>(
     alloc: Global,

@@ -1,5 +1,5 @@
-//! Legality (ISO/IEC 8652:2012, 1.1.2): the first of the faults of a source whose names are known, those in its units among
-//! them: packages and the main procedure (clauses 7, 10).
+//! Legality (ISO/IEC 8652:2012, 1.1.2): the first of the faults of a source whose names are known,
+//! those in its units among them: packages and the main procedure (clauses 7, 10).
 #![tactic(auto)]
 
 mod faults;

@@ -3,7 +3,9 @@ ghost use Rattle.std.specs.Prelude.{◌≡◌, ◌++◌, ◌∷◌, [], OnOk, po
 ghost use Rattle.ada_regions.specs.PredefinedUnits.{default_priority};
 ghost use Rattle.ada_legality.specs.Aspects.{stated_value};
 ghost use Rattle.ada_legality.specs.CallStatements.{all_found, found_if};
-ghost use Rattle.ada_legality.specs.Units.{library_package_found, main_found, main_priority_noted, package_body_found, package_declaration_found, package_found, part_found, units_found};
+ghost use Rattle.ada_legality.specs.Units.{library_package_found, main_found, main_priority_noted};
+ghost use Rattle.ada_legality.specs.Units.{package_body_found, package_declaration_found};
+ghost use Rattle.ada_legality.specs.Units.{package_found, part_found, units_found};
 
 use ada_legality::{Around, AspectOwner, AspectPart, Finding, Known, Number};
 use ada_predefined::default_priority;

@@ -18,7 +18,8 @@ one_formal k number f fs actuals =
     let one : suc number ≡ number + 1 = omega arith in
     ap (λ n. actual_if k f (actual_from number f.name 0 actuals) ++ actuals_fitted k n fs actuals) one
 
-pub fitted_is : (k : Known) (number : ℕ) (fs : List FormalPart) (actuals : List ActualPart) → actuals_fitted k number fs actuals ≡ fitted_along k number fs actuals
+pub fitted_is : (k : Known) (number : ℕ) (fs : List FormalPart) (actuals : List ActualPart)
+    → actuals_fitted k number fs actuals ≡ fitted_along k number fs actuals
 fitted_is k number [] actuals = no_formal k number actuals
 fitted_is k number (f ∷ fs) actuals =
     one_formal k number f fs actuals

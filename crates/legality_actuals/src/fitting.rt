@@ -1,6 +1,7 @@
 //! Actuals for what their formals want (ISO/IEC 8652:2012, 6.4.1, D.7).
 ghost use Rattle.std.specs.Prelude.{◌≡◌, ◌++◌, OnOk};
-ghost use Rattle.ada_legality.specs.Reading.{actual_wanted, actual_if, actuals_fitted, actuals_judged};
+ghost use Rattle.ada_legality.specs.Reading.{actual_wanted, actual_if};
+ghost use Rattle.ada_legality.specs.Reading.{actuals_fitted, actuals_judged};
 ghost use Rattle.legality_actuals.specs.Along.{fitted_along};
 
 use ada_legality::{ActualPart, Asked, Finding, FormalPart, Known, Read, Wanted};

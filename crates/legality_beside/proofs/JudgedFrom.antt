@@ -6,7 +6,8 @@ use Rattle.ada_legality.specs.declared.findings.Finding.{Finding}
 use Rattle.ada_regions.specs.declared.table.Names.{Names}
 use Rattle.legality_beside.specs.Judging.{judged_along}
 
-one_more : (n : Names) (found : Found) (at : ℕ) (f : Finding) (rest : Found) → judged_from n found at (f ∷ rest) ≡ judged_beside n found (take at found) f ++ judged_from n found (at + 1) rest
+one_more : (n : Names) (found : Found) (at : ℕ) (f : Finding) (rest : Found)
+    → judged_from n found at (f ∷ rest) ≡ judged_beside n found (take at found) f ++ judged_from n found (at + 1) rest
 unfolding judged_from
 one_more n found at f rest =
     let one : suc at ≡ at + 1 = omega arith in

@@ -1,5 +1,6 @@
 -- The first of the faults among what is found, one finding before.
-use Rattle.std.proofs.Common.{◌≡◌, ◌<◌, ◌≤◌, ◌-◌, ◌∷◌, ◌∙◌, [], ℕ, suc, Bool, true, false, List, Option, Some, None, ap, arith, cond, drop, get_or, length, refl, sym}
+use Rattle.std.proofs.Common.{◌≡◌, ◌<◌, ◌≤◌, ◌-◌, ◌∷◌, ◌∙◌, [], ℕ, suc, Bool, true, false, List}
+use Rattle.std.proofs.Common.{Option, Some, None, ap, arith, cond, drop, get_or, length, refl, sym}
 use Rattle.std.specs.List.{flat_map}
 use Rattle.std.proofs.Math.Seq.{drop-cons}
 use Rattle.world_tables.specs.Lists.{first_of}
@@ -38,7 +39,9 @@ first_further (finding.Timer task place) rest = refl
 first_further (finding.Cells number place) rest = refl
 
 -- from the place before: the finding there, and what comes behind it
-pub first_before : (found : Found) (at : ℕ) (d : Finding) (first : Option Fault) → 0 < at → at ≤ length found → first ≡ first_of (in_order_of_text (faults_in (drop at found))) → first_with (get_or found (at - 1) d) first ≡ first_of (in_order_of_text (faults_in (drop (at - 1) found)))
+pub first_before : (found : Found) (at : ℕ) (d : Finding) (first : Option Fault) → 0 < at → at ≤ length found
+    → first ≡ first_of (in_order_of_text (faults_in (drop at found)))
+    → first_with (get_or found (at - 1) d) first ≡ first_of (in_order_of_text (faults_in (drop (at - 1) found)))
 first_before found at d first low high is =
     let x : Finding = get_or found (at - 1) d in
     let inside : at - 1 < length found = omega arith in

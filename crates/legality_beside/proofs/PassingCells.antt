@@ -8,7 +8,8 @@ use Rattle.ada_regions.specs.declared.table.Names.{Names}
 use Rattle.ada_regions.specs.declared.table.NumberedDeclaration.{NumberedDeclaration}
 use Rattle.legality_beside.specs.Passing.{cells_with, passing_from, told_of}
 
-passing_more : (n : Names) (found : Found) (number before : ℕ) (d : NumberedDeclaration) (ds : List NumberedDeclaration) → passing_cells n found number before (d ∷ ds) ≡ told_of n found number before d ++ passing_cells n found (number + 1) (cells_with n before d) ds
+passing_more : (n : Names) (found : Found) (number before : ℕ) (d : NumberedDeclaration) (ds : List NumberedDeclaration)
+    → passing_cells n found number before (d ∷ ds) ≡ told_of n found number before d ++ passing_cells n found (number + 1) (cells_with n before d) ds
 unfolding passing_cells
 passing_more n found number before d ds = by (is_in_scope 0 d)
   where
@@ -21,7 +22,9 @@ passing_more n found number before d ds = by (is_in_scope 0 d)
     one : suc number ≡ number + 1
     one = omega arith
 
-    by : (b : Bool) → cond b (told ++ passing_cells n found (suc number) (before + cells) ds) (passing_cells n found (suc number) before ds) ≡ cond b told [] ++ passing_cells n found (number + 1) (cond b (before + cells) before) ds
+    by : (b : Bool)
+        → cond b (told ++ passing_cells n found (suc number) (before + cells) ds) (passing_cells n found (suc number) before ds)
+        ≡ cond b told [] ++ passing_cells n found (number + 1) (cond b (before + cells) before) ds
     by true = ap (λ k. told ++ passing_cells n found k (before + cells) ds) one
     by false = ap (λ k. passing_cells n found k before ds) one
 
@@ -30,7 +33,8 @@ unfolding passing_cells
 passing_none n found number before = refl
 
 -- the declarations one by one
-pub passing_is : (n : Names) (found : Found) (number before : ℕ) (ds : List NumberedDeclaration) → passing_cells n found number before ds ≡ passing_from n found number before ds
+pub passing_is : (n : Names) (found : Found) (number before : ℕ) (ds : List NumberedDeclaration)
+    → passing_cells n found number before ds ≡ passing_from n found number before ds
 passing_is n found number before [] = passing_none n found number before
 passing_is n found number before (d ∷ ds) =
     passing_more n found number before d ds

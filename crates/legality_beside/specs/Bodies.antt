@@ -1,6 +1,7 @@
 -- The bodies of a package or a source, by the entities that their names denote.
 use Rattle.std.specs.List.{list_any}
-use Rattle.std.specs.Prelude.{Bool, List, [], ◌∷◌, None, Option, Some, cond, false, not, option_map, true, unwrap_or, ℕ, ◌||◌}
+use Rattle.std.specs.Prelude.{Bool, List, [], ◌∷◌, None, Option, Some, cond}
+use Rattle.std.specs.Prelude.{false, not, option_map, true, unwrap_or, ℕ, ◌||◌}
 use Rattle.ada_legality.specs.Values.{is_entity}
 use Rattle.ada_regions.specs.Names.{entity_denoted}
 use Rattle.ada_regions.specs.Words.{same_place}

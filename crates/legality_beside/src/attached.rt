@@ -1,7 +1,11 @@
 //! Attached handlers and their interrupts (C.3.1, D.3).
 ghost use Rattle.std.specs.Prelude.{◌≡◌, ◌++◌, ◌≤◌, length, take, OnOk};
 ghost use Rattle.std.specs.List.{flat_map, list_any};
-ghost use Rattle.ada_legality.specs.WholeSource.{is_attached_in, has_attached, same_numbers, clashes_with, clashes, place_for, handler_of_object, handlers_of_object, is_attached_number, takes_number, taken_number, numbers_of_object};
+ghost use Rattle.ada_legality.specs.WholeSource.{is_attached_in, has_attached, same_numbers};
+ghost use Rattle.ada_legality.specs.WholeSource.{clashes_with, clashes, place_for};
+ghost use Rattle.ada_legality.specs.WholeSource.{handler_of_object, handlers_of_object};
+ghost use Rattle.ada_legality.specs.WholeSource.{is_attached_number, takes_number};
+ghost use Rattle.ada_legality.specs.WholeSource.{taken_number, numbers_of_object};
 
 use crate::findings::before_place;
 use ada_entities::same_place;
@@ -66,7 +70,8 @@ pub(crate) fn clashes_before(found: &[Finding], at: usize, attached: &Attached) 
         .any(|finding| clashes(attached, finding))
 }
 
-/// Where a rule on an object is broken: a single one at the procedure, another one where it is declared.
+/// Where a rule on an object is broken: a single one at the procedure, another one where it is
+/// declared.
 fn place_for(object: &ProtectedObject, single: Place) -> Place
     ensures { result ≡ place_for object.now single }
 {

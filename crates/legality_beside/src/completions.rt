@@ -1,7 +1,11 @@
-//! Completions (3.11.1): one body, in the declaration's own part; returns (6.3); the tasks of timers (D.14.1).
+//! Completions (3.11.1): one body, in the declaration's own part; returns (6.3); the tasks of
+//! timers (D.14.1).
 ghost use Rattle.std.specs.Prelude.{◌≡◌};
 ghost use Rattle.std.specs.List.{list_any};
-ghost use Rattle.ada_legality.specs.WholeSource.{same_kind, is_body_of, bodies_of, is_other_profile_of, has_known_body, is_uncompleted, is_return_of, is_task_constant, names_task};
+ghost use Rattle.ada_legality.specs.WholeSource.{same_kind, is_body_of, bodies_of};
+ghost use Rattle.ada_legality.specs.WholeSource.{is_other_profile_of, has_known_body};
+ghost use Rattle.ada_legality.specs.WholeSource.{is_uncompleted, is_return_of};
+ghost use Rattle.ada_legality.specs.WholeSource.{is_task_constant, names_task};
 
 use ada_completions::has_body;
 use ada_entities::same_place;

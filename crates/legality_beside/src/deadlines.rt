@@ -1,7 +1,8 @@
 //! What a source with an EDF range keeps (D.2.6; this profile's own).
 ghost use Rattle.std.specs.Prelude.{◌≡◌, ◌++◌, OnOk};
 ghost use Rattle.std.specs.List.{flat_map};
-ghost use Rattle.ada_legality.specs.WholeSource.{lies_in_range, is_lowest, has_attached_if, ceiling_of, in_deadline_range, range_judged};
+ghost use Rattle.ada_legality.specs.WholeSource.{lies_in_range, is_lowest, has_attached_if};
+ghost use Rattle.ada_legality.specs.WholeSource.{ceiling_of, in_deadline_range, range_judged};
 
 use crate::attached::has_attached;
 use ada_legality::{Ceiling, DeadlineRange, Finding, Number, Rule};
@@ -51,8 +52,8 @@ fn ceiling_of(last: u8, found: &[Finding], ceiling: &Ceiling) -> Number
     }
 }
 
-/// A priority or a ceiling that may not lie in a range: that of the main procedure not at all, a task's base priority
-/// and a protected object's ceiling not at its lowest.
+/// A priority or a ceiling that may not lie in a range: that of the main procedure not at all, a
+/// task's base priority and a protected object's ceiling not at its lowest.
 #[tactic(auto, unfolding(ada_legality::specs::WholeSource::in_deadline_range))]
 fn in_deadline_range(
     judged: &mut List<Finding>,

@@ -1,7 +1,8 @@
 //! The first of the faults among what is found, in the order of the text (1.1.5).
 ghost use Rattle.std.specs.Prelude.{◌≡◌};
 ghost use Rattle.world_tables.specs.Lists.{first_of};
-ghost use Rattle.ada_legality.specs.Faults.{number_of_rule, comes_before, same_fault, in_order_of_text, faults_in};
+ghost use Rattle.ada_legality.specs.Faults.{number_of_rule, comes_before};
+ghost use Rattle.ada_legality.specs.Faults.{same_fault, in_order_of_text, faults_in};
 ghost use Rattle.legality_beside.specs.Ordered.{earlier, first_with};
 
 use ada_entities::{same_place, stands_before};
@@ -48,7 +49,8 @@ fn first_with(finding: &Finding, first: Option<Fault>) -> Option<Fault>
     }
 }
 
-/// The first of the faults among what is found, in the order of the text, at one place by the number of its rule.
+/// The first of the faults among what is found, in the order of the text, at one place by the
+/// number of its rule.
 #[tactic(auto, using(crate::proofs::Ordering::none_left))]
 pub fn first_fault_in(found: &[Finding]) -> Option<Fault>
     ensures { result ≡ first_of (in_order_of_text (faults_in found.now)) }

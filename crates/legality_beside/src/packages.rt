@@ -1,10 +1,16 @@
-//! Packages (7.2, 10.1.4): a body follows its declaration, and only one does; a declaration that needs a body has one.
+//! Packages (7.2, 10.1.4): a body follows its declaration, and only one does; a declaration that
+//! needs a body has one.
 ghost use Rattle.std.specs.Prelude.{◌≡◌, ◌++◌, IfOk, OnOk, map};
 ghost use Rattle.std.specs.List.{flat_map, list_any};
 ghost use Rattle.ada_regions.specs.Names.{entity_denoted};
 ghost use Rattle.ada_legality.specs.Values.{is_entity};
-ghost use Rattle.ada_legality.specs.Packages.{denote_entity, body_named_in, bodies_of_packages, is_first_of, completes_package, body_judged, body_named, private_part, bodies_in_package, package_needs_body, has_package_body, declaration_judged, package_judged, packages_judged};
-ghost use Rattle.legality_beside.specs.Bodies.{denoted_in, has_entity, has_body_among, lacks_body, package_lacks, body_of, completes_some, first_among};
+ghost use Rattle.ada_legality.specs.Packages.{denote_entity, body_named_in, bodies_of_packages};
+ghost use Rattle.ada_legality.specs.Packages.{is_first_of, completes_package, body_judged};
+ghost use Rattle.ada_legality.specs.Packages.{body_named, private_part, bodies_in_package};
+ghost use Rattle.ada_legality.specs.Packages.{package_needs_body, has_package_body};
+ghost use Rattle.ada_legality.specs.Packages.{declaration_judged, package_judged, packages_judged};
+ghost use Rattle.legality_beside.specs.Bodies.{denoted_in, has_entity, has_body_among, lacks_body};
+ghost use Rattle.legality_beside.specs.Bodies.{package_lacks, body_of, completes_some, first_among};
 
 use ada_entities::{entity_denoted, is_package_at, same_place};
 use ada_legality::{Finding, Rule};
@@ -340,7 +346,8 @@ fn package_judged(
     }
 }
 
-/// All packages of a source: each body completes its package, and each package that needs a body has one.
+/// All packages of a source: each body completes its package, and each package that needs a body
+/// has one.
 #[tactic(auto, unfolding(ada_legality::specs::Packages::packages_judged))]
 pub fn packages_judged(
     alloc: Global,

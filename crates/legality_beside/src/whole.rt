@@ -1,7 +1,9 @@
 //! What is found of the whole of a source, beside what a walk over it found.
 ghost use Rattle.std.specs.Prelude.{◌≡◌, ◌++◌, ◌≤◌, length, take, OnOk};
 ghost use Rattle.legality_beside.specs.Judging.{judged_along};
-ghost use Rattle.ada_legality.specs.WholeSource.{judged_beside, judged_from, found_beside, handlers_of_object as handlers_of, numbers_of_object as numbers_of};
+ghost use Rattle.ada_legality.specs.WholeSource.{judged_beside, judged_from, found_beside};
+ghost use Rattle.ada_legality.specs.WholeSource.{handlers_of_object as handlers_of};
+ghost use Rattle.ada_legality.specs.WholeSource.{numbers_of_object as numbers_of};
 
 use crate::attached::{clashes_before, handlers_of_object, has_attached, numbers_of_object};
 use crate::cells::passing_cells;
@@ -116,8 +118,8 @@ fn judged_from(
     judged_along(judged, names, found)
 }
 
-/// What is found of the whole of a source, beside what a walk over it found; ranges are those of its pragmas that are
-/// dispatched by deadlines.
+/// What is found of the whole of a source, beside what a walk over it found; ranges are those of
+/// its pragmas that are dispatched by deadlines.
 #[tactic(auto, unfolding(ada_legality::specs::WholeSource::found_beside))]
 pub fn found_beside(
     alloc: Global,

@@ -1,6 +1,7 @@
 //! Bodies and declarations (ISO/IEC 8652:2012, 3.1, 6.3, 9.1, 9.4, 9.5.2).
 ghost use Rattle.std.specs.Prelude.{◌≡◌, ◌++◌, OnOk};
-ghost use Rattle.ada_legality.specs.Declarations.{entry_body_found, subprogram_body_found, task_body_found};
+ghost use Rattle.ada_legality.specs.Declarations.{entry_body_found};
+ghost use Rattle.ada_legality.specs.Declarations.{subprogram_body_found, task_body_found};
 
 use crate::sequences::WithDeclarations;
 use ada_entities::entity_denoted;

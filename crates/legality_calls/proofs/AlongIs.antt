@@ -1,6 +1,7 @@
 -- Actuals and formals, one at a time.
 use Rattle.std.proofs.Common.{◌≡◌, ◌++◌, ◌+◌, ◌||◌, ◌∷◌, ◌∙◌, [], Bool, List, None, Some, cond, false, true, ℕ, ap, arith, refl, suc, take}
-use Rattle.ada_legality.specs.Calls.{actual_from, given_before, given_in_place, gives_name, is_for, is_for_a_formal, is_misnamed, some_are_misnamed, stray_actuals}
+use Rattle.ada_legality.specs.Calls.{actual_from, given_before, given_in_place, gives_name, is_for}
+use Rattle.ada_legality.specs.Calls.{is_for_a_formal, is_misnamed, some_are_misnamed, stray_actuals}
 use Rattle.ada_legality.specs.Findings.{broken_unless}
 use Rattle.ada_legality.specs.declared.parts.ActualPart.{ActualPart}
 use Rattle.ada_legality.specs.declared.parts.FormalPart.{FormalPart}
@@ -12,13 +13,15 @@ unfolding stray_actuals
 no_actual formals actuals at = refl
 
 one_actual : (formals : List FormalPart) (actuals : List ActualPart) (at : ℕ) (a : ActualPart) (rest : List ActualPart)
-    → stray_actuals formals actuals at (a ∷ rest) ≡ broken_unless rule.Actuals (is_for_a_formal formals (take at actuals) a.formal) a.place ++ stray_actuals formals actuals (at + 1) rest
+    → stray_actuals formals actuals at (a ∷ rest)
+    ≡ broken_unless rule.Actuals (is_for_a_formal formals (take at actuals) a.formal) a.place ++ stray_actuals formals actuals (at + 1) rest
 unfolding stray_actuals
 one_actual formals actuals at a rest =
     let one : suc at ≡ at + 1 = omega arith in
     ap (λ n. broken_unless rule.Actuals (is_for_a_formal formals (take at actuals) a.formal) a.place ++ stray_actuals formals actuals n rest) one
 
-pub stray_is : (formals : List FormalPart) (actuals : List ActualPart) (at : ℕ) (rest : List ActualPart) → stray_actuals formals actuals at rest ≡ stray_along formals actuals at rest
+pub stray_is : (formals : List FormalPart) (actuals : List ActualPart) (at : ℕ) (rest : List ActualPart)
+    → stray_actuals formals actuals at rest ≡ stray_along formals actuals at rest
 stray_is formals actuals at [] = no_actual formals actuals at
 stray_is formals actuals at (a ∷ rest) =
     one_actual formals actuals at a rest
@@ -39,7 +42,8 @@ grouped : (a b c : Bool) → a || (b || c) ≡ (a || b) || c
 grouped true b c = refl
 grouped false b c = refl
 
-pub given_is : (formals : List FormalPart) (before : List ActualPart) (at : ℕ) (name : List ℕ) → given_before formals before at name ≡ given_along formals before at name
+pub given_is : (formals : List FormalPart) (before : List ActualPart) (at : ℕ) (name : List ℕ)
+    → given_before formals before at name ≡ given_along formals before at name
 given_is formals [] at name = none_given formals at name
 given_is formals (a ∷ before) at name =
     one_given formals a before at name
@@ -57,7 +61,8 @@ one_misnamed formals actuals at a rest =
     let one : suc at ≡ at + 1 = omega arith in
     ap (λ n. is_misnamed formals (take at actuals) a.formal || some_are_misnamed formals actuals n rest) one
 
-pub misnamed_is : (formals : List FormalPart) (actuals : List ActualPart) (at : ℕ) (rest : List ActualPart) → some_are_misnamed formals actuals at rest ≡ misnamed_along formals actuals at rest
+pub misnamed_is : (formals : List FormalPart) (actuals : List ActualPart) (at : ℕ) (rest : List ActualPart)
+    → some_are_misnamed formals actuals at rest ≡ misnamed_along formals actuals at rest
 misnamed_is formals actuals at [] = none_misnamed formals actuals at
 misnamed_is formals actuals at (a ∷ rest) =
     one_misnamed formals actuals at a rest

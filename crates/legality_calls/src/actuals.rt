@@ -1,7 +1,12 @@
 //! Actuals and formals by number and name (ISO/IEC 8652:2012, 6.4.1).
 ghost use Rattle.std.specs.Prelude.{◌≡◌, ◌++◌, ◌≤◌, ◌||◌, length, take, OnOk};
-ghost use Rattle.ada_legality.specs.Calls.{gives_name, is_formal_named, names_formal, formal_at, given_in_place, given_before, some_are_named, is_for_a_formal, stray_actuals, is_misnamed, some_are_misnamed, is_given, all_given, wrong_actuals, is_for, actual_from};
-ghost use Rattle.legality_calls.specs.Along.{actual_along, given_along, misnamed_along, stray_along};
+ghost use Rattle.ada_legality.specs.Calls.{gives_name, is_formal_named, names_formal};
+ghost use Rattle.ada_legality.specs.Calls.{formal_at, given_in_place, given_before};
+ghost use Rattle.ada_legality.specs.Calls.{some_are_named, is_for_a_formal, stray_actuals};
+ghost use Rattle.ada_legality.specs.Calls.{is_misnamed, some_are_misnamed, is_given};
+ghost use Rattle.ada_legality.specs.Calls.{all_given, wrong_actuals, is_for, actual_from};
+ghost use Rattle.legality_calls.specs.Along.{actual_along, given_along};
+ghost use Rattle.legality_calls.specs.Along.{misnamed_along, stray_along};
 
 use crate::moments::gives_name;
 use ada_legality::{ActualPart, Finding, FormalPart, Read, Rule};
@@ -183,7 +188,8 @@ fn all_given(formals: &[FormalPart], actuals: &[ActualPart]) -> bool
         .all(|formal| is_given(formals, actuals, formal))
 }
 
-/// Actuals that do not fit formals by number and name: a stray one, and the call where some are too few.
+/// Actuals that do not fit formals by number and name: a stray one, and the call where some are too
+/// few.
 #[tactic(auto, unfolding(ada_legality::specs::Calls::wrong_actuals))]
 pub fn wrong_actuals(
     found: &mut List<Finding>,

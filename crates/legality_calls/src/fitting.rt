@@ -2,7 +2,8 @@
 ghost use Rattle.std.specs.List.{list_any};
 ghost use Rattle.std.specs.Prelude.{◌≡◌, ◌++◌, OnOk, codes};
 ghost use Rattle.ada_legality.specs.Calls.{is_formal_named};
-ghost use Rattle.ada_legality.specs.Reading.{is_event, wants_event, is_event_handler, sets_event_by_span, actuals_numbered};
+ghost use Rattle.ada_legality.specs.Reading.{is_event, wants_event, is_event_handler};
+ghost use Rattle.ada_legality.specs.Reading.{sets_event_by_span, actuals_numbered};
 
 use crate::actuals::{is_formal_named, wrong_actuals};
 use ada_legality::{ActualPart, Finding, FormalPart, Known, Rule, Wanted};

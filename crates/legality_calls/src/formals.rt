@@ -3,7 +3,9 @@ ghost use Rattle.std.specs.Prelude.{◌≡◌, ◌++◌, ◌∷◌, [], IfOk, On
 ghost use Rattle.ada_regions.specs.declared.types.AdaType.TheVariants as types;
 ghost use Rattle.ada_regions.specs.declared.types.Mode.TheVariants as mode;
 ghost use Rattle.ada_legality.specs.declared.parts.Wanted.TheVariants as wanting;
-ghost use Rattle.ada_legality.specs.Calls.{moment_name, wanted_subtype, formal_part, formals_of_kind, without_name, formals_of_item, formals_denoted, formals_of_operation};
+ghost use Rattle.ada_legality.specs.Calls.{moment_name, wanted_subtype, formal_part};
+ghost use Rattle.ada_legality.specs.Calls.{formals_of_kind, without_name, formals_of_item};
+ghost use Rattle.ada_legality.specs.Calls.{formals_denoted, formals_of_operation};
 
 use crate::moments::{moment_is_span, moment_name};
 use ada_entities::copy;

@@ -1,7 +1,12 @@
-//! Actuals for handlers, and actuals that are assigned (ISO/IEC 8652:2012, 6.4.1, 9.5.1, C.3.1, D.14.1, D.14.2, D.15).
+//! Actuals for handlers, and actuals that are assigned (ISO/IEC 8652:2012, 6.4.1, 9.5.1, C.3.1,
+//! D.14.1, D.14.2, D.15).
 ghost use Rattle.std.specs.Prelude.{◌≡◌, ◌++◌, ◌∷◌, [], None, OnOk, false, option_map, unwrap_or};
 ghost use Rattle.ada_legality.specs.Types.{same_type};
-ghost use Rattle.ada_legality.specs.Reading.{function_in_unit, functions_of_unit, component_assigned, shape_is_variable, component_in_shape, assigning_actual, assigned_if, is_handler_or_null, wanted_of_handler, handles_objects_of, is_wanted_handler, handler_actual};
+ghost use Rattle.ada_legality.specs.Reading.{function_in_unit, functions_of_unit};
+ghost use Rattle.ada_legality.specs.Reading.{component_assigned, shape_is_variable};
+ghost use Rattle.ada_legality.specs.Reading.{component_in_shape, assigning_actual, assigned_if};
+ghost use Rattle.ada_legality.specs.Reading.{is_handler_or_null, wanted_of_handler};
+ghost use Rattle.ada_legality.specs.Reading.{handles_objects_of, is_wanted_handler, handler_actual};
 ghost use Rattle.legality_calls.specs.Beside.{function_beside, functions_along};
 
 use ada_entities::kind_at;

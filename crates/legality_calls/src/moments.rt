@@ -1,6 +1,9 @@
-//! The moment of a Set_Handler (ISO/IEC 8652:2012, D.14.1, D.15): told by its name, else by the second actual's type.
+//! The moment of a Set_Handler (ISO/IEC 8652:2012, D.14.1, D.15): told by its name, else by the
+//! second actual's type.
 ghost use Rattle.std.specs.Prelude.{◌≡◌};
-ghost use Rattle.ada_legality.specs.Calls.{gives_name, moment_name, has_named, positional, second_positional, has_span_first, span_if_typed, span_by, moment_is_span};
+ghost use Rattle.ada_legality.specs.Calls.{gives_name, moment_name, has_named};
+ghost use Rattle.ada_legality.specs.Calls.{positional, second_positional, has_span_first};
+ghost use Rattle.ada_legality.specs.Calls.{span_if_typed, span_by, moment_is_span};
 
 use ada_legality::{ActualPart, Typed};
 use ada_regions::{Operation, is_span_type};

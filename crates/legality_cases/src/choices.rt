@@ -2,7 +2,9 @@
 ghost use Rattle.std.specs.Prelude.{◌≡◌, ◌++◌, IfOk, OnOk, option_map};
 ghost use Rattle.ada_regions.specs.Words.{all_of};
 ghost use Rattle.ada_legality.specs.Findings.{Reads};
-ghost use Rattle.ada_legality.specs.Choices.{both_ends, case_judged, choice_number, choice_read, choices_read, one_value, range_choice, selector_judged, type_of_selector, value_choice};
+ghost use Rattle.ada_legality.specs.Choices.{both_ends, case_judged, choice_number, choice_read};
+ghost use Rattle.ada_legality.specs.Choices.{choices_read, one_value, range_choice};
+ghost use Rattle.ada_legality.specs.Choices.{selector_judged, type_of_selector, value_choice};
 ghost use Rattle.legality_cases.specs.Ranges.{range_judged};
 
 use ada_legality::{
@@ -233,7 +235,8 @@ fn choice_read(
     }
 }
 
-// Choices in their order. The check of borrows asks that a loop whose list holds values is in a function that names their type.
+// Choices in their order. The check of borrows asks that a loop whose list holds values is in a
+// function that names their type.
 #[tactic(auto, unfolding(ada_legality::specs::Choices::choices_read))]
 fn choices_in_order(
     alloc: Global,

@@ -1,5 +1,6 @@
-//! The choices of case statements, as they are read, and what is found in them (ISO/IEC 8652:2012, 5.4). Each function has
-//! the name of the definition of `ada_legality` of which it is the counterpart.
+//! The choices of case statements, as they are read, and what is found in them (ISO/IEC 8652:2012,
+//! 5.4). Each function has the name of the definition of `ada_legality` of which it is the
+//! counterpart.
 #![tactic(auto)]
 
 mod choices;

@@ -18,7 +18,9 @@ unfolding repeated_choices
 none_repeated before = refl
 
 one_repeated : (before : List (Option Span)) (c : ChoicePart) (cs : List ChoicePart)
-    → repeated_choices before (c ∷ cs) ≡ broken_if rule.ConditionsAndChoices (meets_before c.values before) c.place ++ repeated_choices (kept_range (meets_before c.values before) c.values before) cs
+    → repeated_choices before (c ∷ cs)
+    ≡ broken_if rule.ConditionsAndChoices (meets_before c.values before) c.place
+    ++ repeated_choices (kept_range (meets_before c.values before) c.values before) cs
 unfolding repeated_choices
 one_repeated before c cs = refl
 
@@ -39,7 +41,8 @@ last_one : (c : ChoicePart) → [] ≡ others_not_last (c ∷ [])
 unfolding others_not_last
 last_one c = refl
 
-one_before : (c : ChoicePart) (d : ChoicePart) (rest : List ChoicePart) → broken_if rule.ConditionsAndChoices c.is_others c.place ++ others_not_last (d ∷ rest) ≡ others_not_last (c ∷ d ∷ rest)
+one_before : (c : ChoicePart) (d : ChoicePart) (rest : List ChoicePart)
+    → broken_if rule.ConditionsAndChoices c.is_others c.place ++ others_not_last (d ∷ rest) ≡ others_not_last (c ∷ d ∷ rest)
 unfolding others_not_last
 one_before c d rest = refl
 

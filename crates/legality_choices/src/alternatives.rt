@@ -2,7 +2,12 @@
 ghost use Rattle.std.specs.Prelude.{◌≡◌, ◌++◌, slice_get, OnOk, Some};
 ghost use Rattle.ada_legality.specs.CallStatements.{beyond};
 ghost use Rattle.ada_legality.specs.Numbers.{size_in};
-ghost use Rattle.ada_legality.specs.SimpleStatements.{is_accept_alternative, is_delay_alternative, is_delay_until_alternative, is_terminate_alternative, any_is, has_delay, has_mixed_delays, terminates, excludes, is_selective_accept, terminates_forbidden, beyond_restriction, selective_accept_judged};
+ghost use Rattle.ada_legality.specs.SimpleStatements.{is_accept_alternative, is_delay_alternative};
+ghost use Rattle.ada_legality.specs.SimpleStatements.{is_delay_until_alternative};
+ghost use Rattle.ada_legality.specs.SimpleStatements.{is_terminate_alternative, any_is, has_delay};
+ghost use Rattle.ada_legality.specs.SimpleStatements.{has_mixed_delays, terminates, excludes};
+ghost use Rattle.ada_legality.specs.SimpleStatements.{is_selective_accept, terminates_forbidden};
+ghost use Rattle.ada_legality.specs.SimpleStatements.{beyond_restriction, selective_accept_judged};
 
 use ada_legality::{
     AlternativeKind, AlternativePart, Finding, Known, MOST_ALTERNATIVES, Number, Rule,
@@ -105,7 +110,8 @@ fn excludes(delays: bool, terminates: bool, otherwise: bool) -> bool
     !(delays && terminates) && (!(delays && otherwise) && !(terminates && otherwise))
 }
 
-/// An accept stands there; delays are of one kind; terminate stands once; delay, terminate and else exclude one another.
+/// An accept stands there; delays are of one kind; terminate stands once; delay, terminate and else
+/// exclude one another.
 #[tactic(auto, unfolding(ada_legality::specs::SimpleStatements::is_selective_accept))]
 fn is_selective_accept(parts: &[AlternativePart], otherwise: bool) -> bool
     ensures { result ≡ is_selective_accept parts.now otherwise }

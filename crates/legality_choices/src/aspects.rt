@@ -1,6 +1,11 @@
 //! What is found in aspects (ISO/IEC 8652:2012, 13.1.1, C.3.1, D.1, D.2.6, D.3, D.16).
-ghost use Rattle.std.specs.Prelude.{◌≡◌, ◌++◌, ◌∷◌, ◌≤◌, [], OnOk, cond, length, option_map, take, unwrap_or};
-ghost use Rattle.ada_legality.specs.Aspects.{asks_cpu, asks_priority, attached_as, has_point, wrong_priority, wrong_cpu, is_span_or_refused, is_deadline, wrong_deadline, wrong_interrupt, priority_judged, attachment_noted, interrupt_judged, aspect_judged, aspects_from};
+ghost use Rattle.std.specs.Prelude.{◌≡◌, ◌++◌, ◌∷◌, ◌≤◌, [], OnOk, cond};
+ghost use Rattle.std.specs.Prelude.{length, option_map, take, unwrap_or};
+ghost use Rattle.ada_legality.specs.Aspects.{asks_cpu, asks_priority, attached_as, has_point};
+ghost use Rattle.ada_legality.specs.Aspects.{wrong_priority, wrong_cpu, is_span_or_refused};
+ghost use Rattle.ada_legality.specs.Aspects.{is_deadline, wrong_deadline, wrong_interrupt};
+ghost use Rattle.ada_legality.specs.Aspects.{priority_judged, attachment_noted};
+ghost use Rattle.ada_legality.specs.Aspects.{interrupt_judged, aspect_judged, aspects_from};
 ghost use Rattle.legality_choices.specs.OneByOne.{aspects_along};
 
 use crate::lies_between;

@@ -1,7 +1,8 @@
 //! Complete choices (ISO/IEC 8652:2012, 5.4): every value is that of a choice.
 ghost use Rattle.std.specs.Prelude.{◌≡◌, ◌++◌, OnOk, int_le};
 ghost use Rattle.std.specs.List.{list_all, list_any};
-ghost use Rattle.ada_legality.specs.Choices.{behind_range, behind_ranges, reached, covers, is_clear_choice, is_complete, wrong_choices, is_name};
+ghost use Rattle.ada_legality.specs.Choices.{behind_range, behind_ranges, reached, covers};
+ghost use Rattle.ada_legality.specs.Choices.{is_clear_choice, is_complete, wrong_choices, is_name};
 ghost use Rattle.legality_choices.specs.NextValue.{next_number};
 
 use crate::distinct::repeated_choices;

@@ -1,7 +1,9 @@
 //! Distinct choices (ISO/IEC 8652:2012, 5.4).
 ghost use Rattle.std.specs.Prelude.{◌≡◌, ◌++◌, [], None, OnOk};
-ghost use Rattle.ada_legality.specs.Choices.{kept_range, meets_before, others_not_last, repeated_choices};
-ghost use Rattle.legality_choices.specs.OneByOne.{others_behind, others_here, others_place, repeated_along};
+ghost use Rattle.ada_legality.specs.Choices.{kept_range, meets_before};
+ghost use Rattle.ada_legality.specs.Choices.{others_not_last, repeated_choices};
+ghost use Rattle.legality_choices.specs.OneByOne.{others_behind, others_here};
+ghost use Rattle.legality_choices.specs.OneByOne.{others_place, repeated_along};
 
 use crate::meet;
 use ada_legality::{ChoicePart, Finding, Rule, Span, add_values};

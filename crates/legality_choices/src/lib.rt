@@ -1,7 +1,8 @@
-//! Static numbers and ranges of them, and what is told of choices of case statements, alternatives of selective accepts, and
-//! aspects (ISO/IEC 8652:2012, 2.4, 3.5, 4.9, 5.4, 9.7.1, 13.1.1, C.3.1, D.1, D.2.6, D.3, D.16). Each function has the name of the
-//! definition of `ada_legality` of which it is the counterpart. Only a literal of more than
-//! 128 bits, which no token is, is answered as want of memory where there is some.
+//! Static numbers and ranges of them, and what is told of choices of case statements, alternatives
+//! of selective accepts, and aspects (ISO/IEC 8652:2012, 2.4, 3.5, 4.9, 5.4, 9.7.1, 13.1.1, C.3.1,
+//! D.1, D.2.6, D.3, D.16). Each function has the name of the definition of `ada_legality` of which
+//! it is the counterpart. Only a literal of more than 128 bits, which no token is, is answered as
+//! want of memory where there is some.
 #![tactic(auto)]
 
 mod alternatives;

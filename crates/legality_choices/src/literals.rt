@@ -31,8 +31,9 @@ fn six_digits(digits: &[u8]) -> u64
     five * 10 + digit_at(digits, 5)
 }
 
-/// The number of a literal by its text, which may lie outside its type: one with a point counts microseconds. No token has a
-/// whole part of more than 128 bits, and only a literal that has one is answered by `NoMemory`.
+/// The number of a literal by its text, which may lie outside its type: one with a point counts
+/// microseconds. No token has a whole part of more than 128 bits, and only a literal that has one
+/// is answered by `NoMemory`.
 #[tactic(auto, unfolding(ada_legality::specs::Words::number_of_literal, ada_regions::specs::Statics::micros_of))]
 pub fn number_of_literal(literal: &[u8]) -> Result<Number, NoMemory>
     ensures number { IfOk result (λ n. n ≡ number_of_literal literal.now) }

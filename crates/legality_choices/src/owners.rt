@@ -1,6 +1,9 @@
 //! On what an aspect stands (ISO/IEC 8652:2012, 13.1.1, C.3.1).
 ghost use Rattle.std.specs.Prelude.{◌≡◌};
-ghost use Rattle.ada_legality.specs.Aspects.{is_priority_name, is_cpu_name, is_deadline_name, is_attach_name, is_known_name, may_have_aspect, asks_priority, asks_cpu, is_task_owner, may_be_attached, attaches_again, attaches_to};
+ghost use Rattle.ada_legality.specs.Aspects.{is_priority_name, is_cpu_name, is_deadline_name};
+ghost use Rattle.ada_legality.specs.Aspects.{is_attach_name, is_known_name, may_have_aspect};
+ghost use Rattle.ada_legality.specs.Aspects.{asks_priority, asks_cpu, is_task_owner};
+ghost use Rattle.ada_legality.specs.Aspects.{may_be_attached, attaches_again, attaches_to};
 
 use ada_legality::{AspectName, AspectOwner};
 

@@ -1,6 +1,10 @@
 //! Priorities that aspects state (ISO/IEC 8652:2012, D.1, D.3).
 ghost use Rattle.std.specs.Prelude.{◌≡◌, ◌&&◌, find, option_copied};
-ghost use Rattle.ada_legality.specs.Aspects.{is_attach_name, is_cpu_name, is_deadline_name, is_priority_name, is_priority_value, stands_before_in, priority_aspect, stated_value, place_of_priority, level_named, is_plain_priority, is_interrupt_priority, stated_level, is_other_ceiling};
+ghost use Rattle.ada_legality.specs.Aspects.{is_attach_name, is_cpu_name, is_deadline_name};
+ghost use Rattle.ada_legality.specs.Aspects.{is_priority_name, is_priority_value, stands_before_in};
+ghost use Rattle.ada_legality.specs.Aspects.{priority_aspect, stated_value, place_of_priority};
+ghost use Rattle.ada_legality.specs.Aspects.{level_named, is_plain_priority, is_interrupt_priority};
+ghost use Rattle.ada_legality.specs.Aspects.{stated_level, is_other_ceiling};
 
 use crate::lies_between;
 use crate::owners::{is_attach_name, is_cpu_name, is_deadline_name, is_priority_name};

@@ -3,7 +3,8 @@ ghost use Rattle.std.specs.Prelude.{◌≡◌, neg_ℤ, option_map, IfOk};
 ghost use Rattle.ada_regions.specs.Words.{and_then};
 ghost use Rattle.ada_tree.specs.declared.expressions.Expression.TheViews.{out-Expression};
 ghost use Rattle.ada_regions.specs.Statics.{literal_of};
-ghost use Rattle.ada_legality.specs.Words.{number_of_value, number_of_literal, literal_number, number_of_expression, static_number};
+ghost use Rattle.ada_legality.specs.Words.{number_of_value, number_of_literal, literal_number};
+ghost use Rattle.ada_legality.specs.Words.{number_of_expression, static_number};
 
 use crate::literals::{number_of_literal, number_of_negative};
 use crate::numbers::number_of_value;
@@ -54,8 +55,8 @@ fn number_of_static(value: Option<Value>) -> Option<Number>
     number_of_value(value)
 }
 
-/// The number of an expression that has one: a literal outside its type has no value. Only a literal of more than 128 bits,
-/// which no token is, is answered by `NoMemory`.
+/// The number of an expression that has one: a literal outside its type has no value. Only a
+/// literal of more than 128 bits, which no token is, is answered by `NoMemory`.
 #[tactic(auto, unfolding(ada_legality::specs::Words::number_of_expression))]
 pub fn number_of_expression(
     known: &Known<'_, '_>,

@@ -9,7 +9,8 @@ use ann_base::NoMemory;
 use std::alloc::Global;
 use world_tables::List;
 
-/// What is judged where something is known. A crate that judges sequences of statements names itself by a type `W` of its own.
+/// What is judged where something is known. A crate that judges sequences of statements names
+/// itself by a type `W` of its own.
 pub trait Judge<W> {
     ghost use Rattle.std.specs.Prelude.{◌≡◌, ◌++◌, OnOk};
     ghost use Rattle.ada_legality.specs.Declarations.{Sight};

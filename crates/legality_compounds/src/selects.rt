@@ -3,7 +3,8 @@ ghost use Rattle.std.specs.Prelude.{◌≡◌, ◌++◌, IfOk, OnOk, map};
 ghost use Rattle.ada_regions.specs.Words.{all_of};
 ghost use Rattle.ada_legality.specs.CallStatements.{found_if};
 ghost use Rattle.ada_legality.specs.Places.{place_of_alternative, place_of_alternative_in};
-ghost use Rattle.ada_legality.specs.SimpleStatements.{alternative_part, guard_found, kind_of_alternative, kind_of_delay};
+ghost use Rattle.ada_legality.specs.SimpleStatements.{alternative_part, guard_found};
+ghost use Rattle.ada_legality.specs.SimpleStatements.{kind_of_alternative, kind_of_delay};
 ghost use Rattle.ada_legality.specs.Statements.{select_form_found, selective_accept_found};
 
 use crate::judging::{Judge, judge_all, judge_if};

@@ -1,6 +1,7 @@
 //! Values, conditions, and what is not static (ISO/IEC 8652:2012, 4.9, 5.3, 8.6).
 ghost use Rattle.std.specs.Prelude.{◌≡◌, ◌++◌, OnOk};
-ghost use Rattle.ada_legality.specs.CallStatements.{found_if, value_found, value_alone_found, condition_found, not_static};
+ghost use Rattle.ada_legality.specs.CallStatements.{found_if, value_found, value_alone_found};
+ghost use Rattle.ada_legality.specs.CallStatements.{condition_found, not_static};
 
 use ada_legality::{Asked, Finding, Known, Rule};
 use ada_regions::AdaType;

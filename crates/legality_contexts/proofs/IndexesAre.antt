@@ -15,18 +15,21 @@ module _ (n : Names) (occurrences : Occurrences) (r : InForce) where
   none indexes = refl
 
   one_more : (indexes : List AdaType) (b : Bounds) (bs : List Bounds)
-      → indexes_from (known_with n occurrences r indexes) (b ∷ bs) ≡ indexes_from (known_with n occurrences r (indexes ++ type_between (known_with n occurrences r indexes) b.0 b.1 ∷ [])) bs
+      → indexes_from (known_with n occurrences r indexes) (b ∷ bs)
+      ≡ indexes_from (known_with n occurrences r (indexes ++ type_between (known_with n occurrences r indexes) b.0 b.1 ∷ [])) bs
   unfolding indexes_from
   one_more indexes b bs = refl
 
   behind : (indexes : List AdaType) (bs : List Bounds) (more : List Bounds)
-      → indexes_from (known_with n occurrences r indexes) (bs ++ more) ≡ indexes_from (known_with n occurrences r (indexes_with n occurrences r indexes bs)) more
+      → indexes_from (known_with n occurrences r indexes) (bs ++ more)
+      ≡ indexes_from (known_with n occurrences r (indexes_with n occurrences r indexes bs)) more
   behind indexes [] more = refl
   behind indexes (b ∷ bs) more =
       one_more indexes b (bs ++ more)
       ∙ behind (indexes ++ type_between (known_with n occurrences r indexes) b.0 b.1 ∷ []) bs more
 
-  along : (indexes : List AdaType) (rest : Occurrences) → indexes_from (known_with n occurrences r indexes) (flat_map bounds_in rest) ≡ indexes_along n occurrences r indexes rest
+  along : (indexes : List AdaType) (rest : Occurrences)
+      → indexes_from (known_with n occurrences r indexes) (flat_map bounds_in rest) ≡ indexes_along n occurrences r indexes rest
   along indexes [] = none indexes
   along indexes (o ∷ rest) =
       behind indexes (bounds_in o) (flat_map bounds_in rest) ∙ along (index_put n occurrences r indexes o) rest

@@ -3,7 +3,8 @@ ghost use Rattle.std.specs.Prelude.{◌≡◌, ◌++◌, OnOk};
 ghost use Rattle.ada_regions.specs.Words.{all_of};
 ghost use Rattle.ada_legality.specs.CallStatements.{all_found};
 ghost use Rattle.ada_legality.specs.Declarations.{use_found};
-ghost use Rattle.ada_legality.specs.Units.{clause_found, context_found, names_dynamic_priorities, with_found};
+ghost use Rattle.ada_legality.specs.Units.{clause_found, context_found};
+ghost use Rattle.ada_legality.specs.Units.{names_dynamic_priorities, with_found};
 ghost use Rattle.ada_legality.specs.Values.{is_denoted};
 
 use ada_entities::denoted_by;

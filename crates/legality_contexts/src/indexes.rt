@@ -1,4 +1,5 @@
-//! The types of the indexes of array types (ISO/IEC 8652:2012, 3.6): each array type stands behind those that its bounds name.
+//! The types of the indexes of array types (ISO/IEC 8652:2012, 3.6): each array type stands behind
+//! those that its bounds name.
 ghost use Rattle.std.specs.Prelude.{◌≡◌, IfOk, OnOk, map};
 ghost use Rattle.ada_regions.specs.Shown.{occurrence_shown};
 ghost use Rattle.ada_legality.specs.SimpleStatements.{type_between};

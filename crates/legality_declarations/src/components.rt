@@ -1,7 +1,9 @@
 //! Components (ISO/IEC 8652:2012, 3.8, 9.4).
 ghost use Rattle.std.specs.Prelude.{◌≡◌, ◌++◌, OnOk};
 ghost use Rattle.ada_legality.specs.CallStatements.{all_found};
-ghost use Rattle.ada_legality.specs.Declarations.{component_found, components_found, protected_component_found, record_component_found};
+ghost use Rattle.ada_legality.specs.Declarations.{component_found, components_found};
+ghost use Rattle.ada_legality.specs.Declarations.{protected_component_found};
+ghost use Rattle.ada_legality.specs.Declarations.{record_component_found};
 
 use ada_legality::{Finding, IndicationUse, Known};
 use ada_tree::{Component, OneOrMore};

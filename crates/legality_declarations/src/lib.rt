@@ -1,5 +1,6 @@
-//! What is found in declarations but those of units: objects, types, components and entries (ISO/IEC 8652:2012, clause 3, 7.6,
-//! 9.4, 9.5.2). Each function has the name of the definition of `ada_legality` of which it is the counterpart.
+//! What is found in declarations but those of units: objects, types, components and entries
+//! (ISO/IEC 8652:2012, clause 3, 7.6, 9.4, 9.5.2). Each function has the name of the definition of
+//! `ada_legality` of which it is the counterpart.
 #![tactic(auto)]
 
 mod components;

@@ -2,7 +2,10 @@
 ghost use Rattle.std.specs.Prelude.{◌≡◌, ◌++◌, IfOk, OnOk, false, int_le, option_map, unwrap_or};
 ghost use Rattle.ada_legality.specs.CallStatements.{found_if};
 ghost use Rattle.ada_legality.specs.declared.limits.TheConstants.{MOST_COMPONENTS};
-ghost use Rattle.ada_legality.specs.Declarations.{array_found, array_judged, components_found, components_from_to, definition_found, is_controlled_root, is_other_component, is_too_long};
+ghost use Rattle.ada_legality.specs.Declarations.{array_found, array_judged};
+ghost use Rattle.ada_legality.specs.Declarations.{components_found, components_from_to};
+ghost use Rattle.ada_legality.specs.Declarations.{definition_found, is_controlled_root};
+ghost use Rattle.ada_legality.specs.Declarations.{is_other_component, is_too_long};
 
 use crate::components::components_found;
 use ada_entities::denoted_by;

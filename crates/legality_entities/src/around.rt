@@ -1,9 +1,11 @@
 //! What stands around a construct (ISO/IEC 8652:2012, clauses 6, 7, 9).
 ghost use Rattle.std.specs.Prelude.{◌≡◌, ◌||◌, find, option_copied};
-ghost use Rattle.ada_legality.specs.Values.{unit_around, type_around, is_entity, is_type, stands_in_unit, stands_in_type};
+ghost use Rattle.ada_legality.specs.Values.{unit_around, type_around, is_entity};
+ghost use Rattle.ada_legality.specs.Values.{is_type, stands_in_unit, stands_in_type};
 ghost use Rattle.ada_legality.specs.Words.{is_body, is_accept, body_around, sequence_around};
 ghost use Rattle.ada_legality.specs.SimpleStatements.{same_entities};
-ghost use Rattle.ada_legality.specs.Attributes.{is_task_body, in_own_task, single_object, is_protected_body, innermost_unit, is_type_in};
+ghost use Rattle.ada_legality.specs.Attributes.{is_task_body, in_own_task, single_object};
+ghost use Rattle.ada_legality.specs.Attributes.{is_protected_body, innermost_unit, is_type_in};
 
 use ada_legality::{Around, Known, same_type};
 use ada_regions::AdaType;
@@ -173,7 +175,8 @@ fn body_of_type_found(outer: &List<Around>, t: AdaType) -> Option<&Around>
         .find(|around| is_type(t, type_around(**around)))
 }
 
-/// The object of a protected unit's own operation: the unit itself, where that is a single object (C.3.1).
+/// The object of a protected unit's own operation: the unit itself, where that is a single object
+/// (C.3.1).
 #[tactic(auto, unfolding(ada_legality::specs::Attributes::single_object))]
 pub fn single_object(outer: &List<Around>, t: AdaType) -> Option<u32>
     ensures { result ≡ single_object outer.now t }

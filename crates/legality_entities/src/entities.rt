@@ -1,7 +1,9 @@
 //! What names denote, and subtypes of entities (ISO/IEC 8652:2012, 3.3, 4.1, 8.6).
 ghost use Rattle.std.specs.Prelude.{◌≡◌, eqb, find, option_copied};
 ghost use Rattle.ada_regions.specs.Regions.{is_entry};
-ghost use Rattle.ada_legality.specs.Values.{subtype_of_loop, subtype_of_object, denoted_kind, kind_of_name, entity_of_name, subtype_of_entity, is_library_declaration, is_library_object, is_kind};
+ghost use Rattle.ada_legality.specs.Values.{subtype_of_loop, subtype_of_object, denoted_kind};
+ghost use Rattle.ada_legality.specs.Values.{kind_of_name, entity_of_name, subtype_of_entity};
+ghost use Rattle.ada_legality.specs.Values.{is_library_declaration, is_library_object, is_kind};
 ghost use Rattle.ada_legality.specs.Attributes.{kind_of_identifier};
 
 use ada_entities::{denoted_by, entity_denoted, entity_of, kind_at};

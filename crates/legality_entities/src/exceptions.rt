@@ -1,7 +1,8 @@
 //! Names of exceptions (ISO/IEC 8652:2012, 11.1).
 ghost use Rattle.std.specs.Prelude.{◌≡◌};
 ghost use Rattle.ada_legality.specs.Values.{is_denoted};
-ghost use Rattle.ada_legality.specs.SimpleStatements.{is_exception_kind, is_exception_item, denotes_exception};
+ghost use Rattle.ada_legality.specs.SimpleStatements.{is_exception_kind, is_exception_item};
+ghost use Rattle.ada_legality.specs.SimpleStatements.{denotes_exception};
 
 use crate::entities::denoted_kind;
 use ada_entities::denoted_by;

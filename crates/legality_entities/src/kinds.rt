@@ -1,8 +1,10 @@
 //! Kinds of entities (ISO/IEC 8652:2012, 3.1, 3.3, 6.1, 9.5.2).
 ghost use Rattle.std.specs.Prelude.{◌≡◌};
-ghost use Rattle.ada_legality.specs.Values.{is_object_kind, is_literal_kind, is_function_kind, is_procedure_kind, formals_of_subprogram};
+ghost use Rattle.ada_legality.specs.Values.{is_object_kind, is_literal_kind, is_function_kind};
+ghost use Rattle.ada_legality.specs.Values.{is_procedure_kind, formals_of_subprogram};
 ghost use Rattle.ada_legality.specs.SimpleStatements.{task_type_of_entry};
-ghost use Rattle.ada_legality.specs.Attributes.{protected_procedure, is_in_mode, is_variable_kind, type_of_entry_unit, unit_type_of_entry};
+ghost use Rattle.ada_legality.specs.Attributes.{protected_procedure, is_in_mode, is_variable_kind};
+ghost use Rattle.ada_legality.specs.Attributes.{type_of_entry_unit, unit_type_of_entry};
 
 use ada_regions::{AdaType, EntityKind, Formal, Mode};
 use profile_image::{EntryUnit, ProtectedUnitNo};

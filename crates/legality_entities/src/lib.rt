@@ -1,6 +1,6 @@
 //! The entities and kinds that names stand for, and what stands around a construct, as the rules of
-//! legality ask it (ISO/IEC 8652:2012, 3.1, 3.3, 6.1, 8.6, 9.5.2, 11.1). Each function has the name of
-//! the definition of `ada_legality` of which it is the counterpart.
+//! legality ask it (ISO/IEC 8652:2012, 3.1, 3.3, 6.1, 8.6, 9.5.2, 11.1). Each function has the name
+//! of the definition of `ada_legality` of which it is the counterpart.
 #![tactic(auto)]
 
 mod around;

@@ -1,6 +1,8 @@
 //! Predefined names (ISO/IEC 8652:2012, annexes A, C, D).
 ghost use Rattle.std.specs.Prelude.{◌≡◌};
-ghost use Rattle.ada_legality.specs.Values.{is_function_operation, type_of_constant, operation_of, operation_denoted, constant_type, is_predefined_constant};
+ghost use Rattle.ada_legality.specs.Values.{is_function_operation, type_of_constant};
+ghost use Rattle.ada_legality.specs.Values.{operation_of, operation_denoted};
+ghost use Rattle.ada_legality.specs.Values.{constant_type, is_predefined_constant};
 
 use ada_image::type_of_operation;
 use ada_regions::{AdaType, Denoted, Operation, Predefined};

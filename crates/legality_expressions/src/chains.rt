@@ -1,6 +1,8 @@
 //! Operators of one level are judged, from left to right (ISO/IEC 8652:2012, 4.5).
 ghost use Rattle.ada_legality.specs.Findings.{Reads};
-ghost use Rattle.ada_legality.specs.ReadExpressions.{operands_read, addends_read, factors_read, logical_expression, relational_expression, adding_expression, multiplying_expression};
+ghost use Rattle.ada_legality.specs.ReadExpressions.{operands_read, addends_read, factors_read};
+ghost use Rattle.ada_legality.specs.ReadExpressions.{logical_expression, relational_expression};
+ghost use Rattle.ada_legality.specs.ReadExpressions.{adding_expression, multiplying_expression};
 
 use crate::readable::{Readable, operand_read};
 use ada_legality::{Finding, Known, Read};

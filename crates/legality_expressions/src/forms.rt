@@ -1,7 +1,10 @@
 //! The forms of expressions (ISO/IEC 8652:2012, clause 4).
 ghost use Rattle.std.specs.Prelude.{◌≡◌, IfOk, option_map, unwrap_or};
 ghost use Rattle.ada_legality.specs.Findings.{Reads};
-ghost use Rattle.ada_legality.specs.ReadExpressions.{signed_expression, highest_expression, bracketed_expression, argument_part, arguments_read, named_expression, typed_expression};
+ghost use Rattle.ada_legality.specs.ReadExpressions.{signed_expression, highest_expression};
+ghost use Rattle.ada_legality.specs.ReadExpressions.{bracketed_expression, argument_part};
+ghost use Rattle.ada_legality.specs.ReadExpressions.{arguments_read, named_expression};
+ghost use Rattle.ada_legality.specs.ReadExpressions.{typed_expression};
 ghost use Rattle.ada_legality.specs.SimpleStatements.{type_between};
 
 use crate::chains::{

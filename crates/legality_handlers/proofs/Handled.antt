@@ -24,7 +24,8 @@ kind_found k x = unless_denoted (denotes_exception k) k x
 abbrev again_found : Known → List Name → Name → Found
 again_found k before x = broken_if rule.RaiseAndHandlers (is_denoted (denotes_exception k) k x && list_any (same_named k.names x) before) (place_of x)
 
-one_more : (k : Known) (names : List Name) (at : ℕ) (x : Name) (xs : List Name) → repeated_names k names at (x ∷ xs) ≡ kind_found k x ++ (again_found k (take at names) x ++ repeated_names k names (at + 1) xs)
+one_more : (k : Known) (names : List Name) (at : ℕ) (x : Name) (xs : List Name)
+    → repeated_names k names at (x ∷ xs) ≡ kind_found k x ++ (again_found k (take at names) x ++ repeated_names k names (at + 1) xs)
 unfolding repeated_names
 one_more k names at x xs =
     let one : suc at ≡ at + 1 = omega arith in
@@ -51,7 +52,8 @@ last_one : (h : HandledExceptions) → [] ≡ others_before_last (h ∷ [])
 unfolding others_before_last
 last_one h = refl
 
-one_before : (h : HandledExceptions) (g : HandledExceptions) (rest : List HandledExceptions) → others_in h ++ others_before_last (g ∷ rest) ≡ others_before_last (h ∷ g ∷ rest)
+one_before : (h : HandledExceptions) (g : HandledExceptions) (rest : List HandledExceptions)
+    → others_in h ++ others_before_last (g ∷ rest) ≡ others_before_last (h ∷ g ∷ rest)
 unfolding others_before_last
 one_before h g rest = refl
 

@@ -1,5 +1,5 @@
-//! Accept statements (ISO/IEC 8652:2012, 9.5.2, 9.7.4): in the body of the entry's task itself, and not inside one for the
-//! same entry.
+//! Accept statements (ISO/IEC 8652:2012, 9.5.2, 9.7.4): in the body of the entry's task itself, and
+//! not inside one for the same entry.
 ghost use Rattle.std.specs.Prelude.{◌≡◌, ◌++◌, OnOk, option_copied};
 ghost use Rattle.ada_regions.specs.Completions.{holds_of};
 ghost use Rattle.ada_regions.specs.Names.{kind_at};
@@ -7,7 +7,8 @@ ghost use Rattle.ada_regions.specs.Words.{and_then};
 ghost use Rattle.ada_regions.specs.Regions.{is_entry};
 ghost use Rattle.ada_legality.specs.SimpleStatements.{task_type_of_entry};
 ghost use Rattle.ada_legality.specs.Words.{any_in_body};
-ghost use Rattle.ada_legality.specs.Statements.{accept_judged, accepts_entry, is_asynchronous_select, stands_in_own_task};
+ghost use Rattle.ada_legality.specs.Statements.{accept_judged, accepts_entry};
+ghost use Rattle.ada_legality.specs.Statements.{is_asynchronous_select, stands_in_own_task};
 
 use ada_entities::{entity_denoted, kind_at};
 use ada_legality::{Around, Finding, Known, Rule};

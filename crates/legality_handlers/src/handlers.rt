@@ -2,8 +2,10 @@
 ghost use Rattle.std.specs.Prelude.{◌≡◌, ◌++◌, ◌≤◌, IfOk, OnOk, None, length, map, take};
 ghost use Rattle.std.specs.List.{flat_map, list_any};
 ghost use Rattle.ada_legality.specs.Words.{same_named};
-ghost use Rattle.ada_legality.specs.Statements.{exceptions_named, handled_judged, others_before_last, repeated_names};
-ghost use Rattle.legality_handlers.specs.Handled.{name_judged, others_behind, others_here, others_place, repeated_along};
+ghost use Rattle.ada_legality.specs.Statements.{exceptions_named, handled_judged};
+ghost use Rattle.ada_legality.specs.Statements.{others_before_last, repeated_names};
+ghost use Rattle.legality_handlers.specs.Handled.{name_judged, others_behind, others_here};
+ghost use Rattle.legality_handlers.specs.Handled.{others_place, repeated_along};
 
 use ada_legality::{Finding, Known, Rule};
 use ada_tree::{HandledExceptions, Handler, Name};

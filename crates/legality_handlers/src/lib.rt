@@ -1,5 +1,6 @@
-//! What is found in the choices of exception handlers, and in the places of accept statements (ISO/IEC 8652:2012, 9.5.2, 9.7.4,
-//! 11.2). Each function has the name of the definition of `ada_legality` of which it is the counterpart.
+//! What is found in the choices of exception handlers, and in the places of accept statements
+//! (ISO/IEC 8652:2012, 9.5.2, 9.7.4, 11.2). Each function has the name of the definition of
+//! `ada_legality` of which it is the counterpart.
 #![tactic(auto)]
 
 mod accepts;

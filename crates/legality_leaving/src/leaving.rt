@@ -5,7 +5,12 @@ ghost use Rattle.ada_legality.specs.Attributes.{kind_of_identifier};
 ghost use Rattle.ada_regions.specs.Completions.{holds_of};
 ghost use Rattle.ada_legality.specs.Words.{any_in_body, any_in_sequence};
 ghost use Rattle.ada_legality.specs.CallStatements.{condition_found, found_if};
-ghost use Rattle.ada_legality.specs.SimpleStatements.{is_loop, same_entities, is_loop_named, is_label_kind, exit_judged, exit_found, function_of, function_around, is_package_around, stands_in_package, returned, return_judged, result_expected, return_found, is_handler, raise_found};
+ghost use Rattle.ada_legality.specs.SimpleStatements.{is_loop, same_entities, is_loop_named};
+ghost use Rattle.ada_legality.specs.SimpleStatements.{is_label_kind, exit_judged, exit_found};
+ghost use Rattle.ada_legality.specs.SimpleStatements.{function_of, function_around};
+ghost use Rattle.ada_legality.specs.SimpleStatements.{is_package_around, stands_in_package};
+ghost use Rattle.ada_legality.specs.SimpleStatements.{returned, return_judged, result_expected};
+ghost use Rattle.ada_legality.specs.SimpleStatements.{return_found, is_handler, raise_found};
 
 use ada_entities::entity_denoted;
 use ada_legality::{Around, Finding, Known, Rule, SubprogramAround};

@@ -2,7 +2,10 @@
 ghost use Rattle.std.specs.Prelude.{◌≡◌};
 ghost use Rattle.ada_regions.specs.Completions.{holds_of};
 ghost use Rattle.ada_legality.specs.Values.{denoted_kind};
-ghost use Rattle.ada_legality.specs.Attributes.{type_of_index, type_of_mark_ends, ends_of_mark, ends_of_object, type_of_ends, has_images, has_count, is_task_object, typed_attribute, takes_arguments, typed_attribute_of};
+ghost use Rattle.ada_legality.specs.Attributes.{type_of_index, type_of_mark_ends, ends_of_mark};
+ghost use Rattle.ada_legality.specs.Attributes.{ends_of_object, type_of_ends, has_images};
+ghost use Rattle.ada_legality.specs.Attributes.{has_count, is_task_object, typed_attribute};
+ghost use Rattle.ada_legality.specs.Attributes.{takes_arguments, typed_attribute_of};
 
 use crate::prefixes::typed_access;
 use ada_entities::denoted_by;

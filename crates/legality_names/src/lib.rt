@@ -1,6 +1,6 @@
-//! Of which type a name is, its attributes and prefixes, and which names are variables, as the rules of
-//! legality ask it (ISO/IEC 8652:2012, 3.3, 3.5, 4.1, 4.4, 4.9, 6.4, 9.9). Each function has the name of
-//! the definition of `ada_legality` of which it is the counterpart.
+//! Of which type a name is, its attributes and prefixes, and which names are variables, as the
+//! rules of legality ask it (ISO/IEC 8652:2012, 3.3, 3.5, 4.1, 4.4, 4.9, 6.4, 9.9). Each function
+//! has the name of the definition of `ada_legality` of which it is the counterpart.
 #![tactic(auto)]
 
 mod attributes;

@@ -1,9 +1,11 @@
-//! What stands before the last part of a name, and handlers (ISO/IEC 8652:2012, 4.1.3, 3.10.2, C.3.1).
+//! What stands before the last part of a name, and handlers (ISO/IEC 8652:2012, 4.1.3, 3.10.2,
+//! C.3.1).
 ghost use Rattle.std.specs.Prelude.{◌≡◌, cond, None, Some};
 ghost use Rattle.ada_regions.specs.Completions.{holds_of};
 ghost use Rattle.ada_regions.specs.Names.{kind_at};
 ghost use Rattle.ada_legality.specs.Values.{is_object_kind};
-ghost use Rattle.ada_legality.specs.Attributes.{object_prefix, handler_object, is_library_entity, is_handler_of, is_library_handler, typed_access};
+ghost use Rattle.ada_legality.specs.Attributes.{object_prefix, handler_object, is_library_entity};
+ghost use Rattle.ada_legality.specs.Attributes.{is_handler_of, is_library_handler, typed_access};
 
 use ada_entities::{entity_denoted, kind_at};
 use ada_legality::{Known, Typed};

@@ -4,7 +4,11 @@ ghost use Rattle.ada_regions.specs.PredefinedUnits.{subtype_with};
 ghost use Rattle.ada_regions.specs.declared.types.AdaType.TheVariants as types;
 ghost use Rattle.profile_image.specs.declared.values.Constraint.TheVariants as constraint;
 ghost use Rattle.ada_legality.specs.declared.reading.Typed.TheVariants as typing;
-ghost use Rattle.ada_legality.specs.Values.{denotes_value, denotes_object, denotes_function, denotes_procedure, component_subtype, subtype_with_index, unless_index, typed_constant, typed_value, result_of_kind, typed_operation_call, typed_call, typed_denoted, typed_name};
+ghost use Rattle.ada_legality.specs.Values.{denotes_value, denotes_object, denotes_function};
+ghost use Rattle.ada_legality.specs.Values.{denotes_procedure, component_subtype};
+ghost use Rattle.ada_legality.specs.Values.{subtype_with_index, unless_index, typed_constant};
+ghost use Rattle.ada_legality.specs.Values.{typed_value, result_of_kind, typed_operation_call};
+ghost use Rattle.ada_legality.specs.Values.{typed_call, typed_denoted, typed_name};
 
 use ada_entities::denoted_by;
 use ada_image::type_of_operation;

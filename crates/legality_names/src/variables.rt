@@ -1,7 +1,8 @@
 //! Variables, and entries of the unit around (ISO/IEC 8652:2012, 3.3, 9.4).
 ghost use Rattle.std.specs.Prelude.{◌≡◌};
 ghost use Rattle.ada_regions.specs.Words.{and_then};
-ghost use Rattle.ada_legality.specs.Attributes.{prefix_is_variable, is_variable, is_own_entry, kind_of_identifier, unit_type_of_entry};
+ghost use Rattle.ada_legality.specs.Attributes.{prefix_is_variable, is_variable, is_own_entry};
+ghost use Rattle.ada_legality.specs.Attributes.{kind_of_identifier, unit_type_of_entry};
 
 use crate::prefixes::object_prefix;
 use ada_entities::kind_at;

@@ -1,7 +1,9 @@
 //! Aspects with their values (ISO/IEC 8652:2012, 13.1.1).
 ghost use Rattle.std.specs.Prelude.{◌≡◌, ◌++◌, OnOk};
 ghost use Rattle.ada_legality.specs.Findings.{Reads};
-ghost use Rattle.ada_legality.specs.Aspects.{aspect_alone, aspect_named, aspect_read, aspect_with_value, aspects_found, aspects_judged, aspects_read, static_level};
+ghost use Rattle.ada_legality.specs.Aspects.{aspect_alone, aspect_named, aspect_read};
+ghost use Rattle.ada_legality.specs.Aspects.{aspect_with_value, aspects_found};
+ghost use Rattle.ada_legality.specs.Aspects.{aspects_judged, aspects_read, static_level};
 
 use ada_legality::{AspectName, AspectOwner, AspectPart, Finding, Known, Number, Rule, add_aspect};
 use ada_regions::{AdaType, Names};
@@ -100,7 +102,8 @@ fn aspect_read(
     }
 }
 
-// Aspects in their order. The check of borrows asks that a loop whose list holds numbers is in a function that names their type.
+// Aspects in their order. The check of borrows asks that a loop whose list holds numbers is in a
+// function that names their type.
 #[tactic(auto, unfolding(ada_legality::specs::Aspects::aspects_read))]
 fn aspects_in_order(
     alloc: Global,

@@ -1,7 +1,8 @@
 //! Bounds (ISO/IEC 8652:2012, 3.5).
 ghost use Rattle.std.specs.Prelude.{◌≡◌, ◌++◌, [], OnOk, cond};
 ghost use Rattle.ada_legality.specs.Types.{has_ranges};
-ghost use Rattle.ada_legality.specs.CallStatements.{is_above, pair_judged, bounds_judged, bounds_found, bounds_if};
+ghost use Rattle.ada_legality.specs.CallStatements.{is_above, pair_judged, bounds_judged};
+ghost use Rattle.ada_legality.specs.CallStatements.{bounds_found, bounds_if};
 
 use ada_legality::{Asked, Finding, Known, Number, Read, Rule};
 use ada_regions::AdaType;

@@ -1,6 +1,6 @@
-//! What is found in parts of statements and declarations: bounds, subtype indications, parameters and aspects (ISO/IEC
-//! 8652:2012, 3.2.2, 3.5, 6.1, 13.1.1). Each function has the name of the definition of `ada_legality` of which it is the
-//! counterpart.
+//! What is found in parts of statements and declarations: bounds, subtype indications, parameters
+//! and aspects (ISO/IEC 8652:2012, 3.2.2, 3.5, 6.1, 13.1.1). Each function has the name of the
+//! definition of `ada_legality` of which it is the counterpart.
 #![tactic(auto)]
 
 mod aspects;

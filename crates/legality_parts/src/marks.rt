@@ -2,7 +2,12 @@
 ghost use Rattle.std.specs.Prelude.{◌≡◌, ◌++◌, OnOk};
 ghost use Rattle.ada_legality.specs.ReadExpressions.{is_unclear_mark};
 ghost use Rattle.ada_legality.specs.Values.{is_kind};
-ghost use Rattle.ada_legality.specs.CallStatements.{type_of_mark, constraint_found, has_range, has_access, may_be_indicated, range_fits, type_fits_indication, is_fitting_mark, may_have_access, has_other_discriminant, component_judged, mark_judged, mark_judged_if, indication_found, parameter_found};
+ghost use Rattle.ada_legality.specs.CallStatements.{type_of_mark, constraint_found, has_range};
+ghost use Rattle.ada_legality.specs.CallStatements.{has_access, may_be_indicated, range_fits};
+ghost use Rattle.ada_legality.specs.CallStatements.{type_fits_indication, is_fitting_mark};
+ghost use Rattle.ada_legality.specs.CallStatements.{may_have_access, has_other_discriminant};
+ghost use Rattle.ada_legality.specs.CallStatements.{component_judged, mark_judged, mark_judged_if};
+ghost use Rattle.ada_legality.specs.CallStatements.{indication_found, parameter_found};
 
 use crate::bounds::bounds_if;
 use ada_legality::{Finding, IndicationUse, Known, Rule};

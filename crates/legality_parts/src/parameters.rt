@@ -1,7 +1,8 @@
 //! Parameters (ISO/IEC 8652:2012, 6.1).
 ghost use Rattle.std.specs.Prelude.{◌≡◌, ◌++◌, IfOk, OnOk, option_copied, slice_get};
 ghost use Rattle.ada_regions.specs.Words.{all_of};
-ghost use Rattle.ada_legality.specs.CallStatements.{all_found, beyond, formal_names_of, is_one, parameter_found, parameters_found};
+ghost use Rattle.ada_legality.specs.CallStatements.{all_found, beyond, formal_names_of};
+ghost use Rattle.ada_legality.specs.CallStatements.{is_one, parameter_found, parameters_found};
 
 use crate::marks::parameter_found;
 use ada_legality::{Finding, Known, MOST_PARAMETERS, Rule};

@@ -2,7 +2,8 @@
 use Rattle.std.proofs.Common.{◌≡◌, ◌++◌, ◌∷◌, ◌∙◌, [], ℕ, Bool, true, false, List, ap, cond, codes, filter, map, refl}
 use Rattle.std.specs.List.{flat_map}
 use Rattle.std.specs.Str.{bytes_eq}
-use Rattle.ada_image.specs.PoliciesOfImage.{number_of, policies_of, policy_of, range_inserted, range_with, ranges_of_pragma, ranges_sorted, specific_range, whole_range_with}
+use Rattle.ada_image.specs.PoliciesOfImage.{number_of, policies_of, policy_of, range_inserted, range_with}
+use Rattle.ada_image.specs.PoliciesOfImage.{ranges_of_pragma, ranges_sorted, specific_range, whole_range_with}
 use Rattle.ada_legality.specs.InForce.{deadline_ranges_of, deadline_ranges_of_pragma, is_by_deadline}
 use Rattle.ada_legality.specs.Pragmas.{is_pragma_of_profile}
 use Rattle.ada_legality.specs.declared.findings.DeadlineRange.{DeadlineRange}
@@ -40,7 +41,8 @@ specific_sorted a [] = none_sorted
 specific_sorted a (b ∷ []) = none_sorted
 specific_sorted a (b ∷ c ∷ more) = with_sorted (policy_of a) (number_of b) (number_of c)
 
-one_of_sorted : (a b : Bool) (xs ys : List DispatchingRange) → ranges_sorted (xs ++ []) ≡ xs → ranges_sorted (ys ++ []) ≡ ys → ranges_sorted (cond a xs (cond b ys []) ++ []) ≡ cond a xs (cond b ys [])
+one_of_sorted : (a b : Bool) (xs ys : List DispatchingRange) → ranges_sorted (xs ++ []) ≡ xs → ranges_sorted (ys ++ []) ≡ ys
+    → ranges_sorted (cond a xs (cond b ys []) ++ []) ≡ cond a xs (cond b ys [])
 one_of_sorted true b xs ys x y = x
 one_of_sorted false true xs ys x y = y
 one_of_sorted false false xs ys x y = none_sorted
@@ -59,7 +61,8 @@ alone_dispatching last p = alone_sorted last p
 
 -- ---- EDF ranges, from the first pragma to the last
 
-told_if : (place : Place) (b : Bool) (r : DispatchingRange) (rs : List DispatchingRange) (rest : List DeadlineRange) → map (placed place) rs ≡ rest → map (placed place) (cond b (r ∷ rs) rs) ≡ cond b (placed place r ∷ []) [] ++ rest
+told_if : (place : Place) (b : Bool) (r : DispatchingRange) (rs : List DispatchingRange) (rest : List DeadlineRange) → map (placed place) rs ≡ rest
+    → map (placed place) (cond b (r ∷ rs) rs) ≡ cond b (placed place r ∷ []) [] ++ rest
 told_if place true r rs rest e = ap (λ xs. placed place r ∷ xs) e
 told_if place false r rs rest e = e
 
@@ -71,15 +74,18 @@ pragma_is : (last : ℕ) (p : Pragma) → deadline_ranges_of_pragma last p ≡ f
 unfolding deadline_ranges_of_pragma
 pragma_is last p = told_is p.place (ranges_of_pragma last p)
 
-pragma_if : (last : ℕ) (b : Bool) (p : Pragma) (ps : List Pragma) (rest : List DeadlineRange) → flat_map (deadline_ranges_of_pragma last) ps ≡ rest → flat_map (deadline_ranges_of_pragma last) (cond b (p ∷ ps) ps) ≡ cond b (flat_map (told p.place) (ranges_of_pragma last p)) [] ++ rest
+pragma_if : (last : ℕ) (b : Bool) (p : Pragma) (ps : List Pragma) (rest : List DeadlineRange) → flat_map (deadline_ranges_of_pragma last) ps ≡ rest
+    → flat_map (deadline_ranges_of_pragma last) (cond b (p ∷ ps) ps) ≡ cond b (flat_map (told p.place) (ranges_of_pragma last p)) [] ++ rest
 pragma_if last true p ps rest e =
     ap (λ xs. xs ++ flat_map (deadline_ranges_of_pragma last) ps) (pragma_is last p)
     ∙ ap (λ xs. flat_map (told p.place) (ranges_of_pragma last p) ++ xs) e
 pragma_if last false p ps rest e = e
 
-pragmas_are : (last : ℕ) (ps : List Pragma) → flat_map (deadline_ranges_of_pragma last) (filter (is_pragma_of_profile last) ps) ≡ flat_map (deadlines_of last) ps
+pragmas_are : (last : ℕ) (ps : List Pragma)
+    → flat_map (deadline_ranges_of_pragma last) (filter (is_pragma_of_profile last) ps) ≡ flat_map (deadlines_of last) ps
 pragmas_are last [] = refl
-pragmas_are last (p ∷ ps) = pragma_if last (is_pragma_of_profile last p) p (filter (is_pragma_of_profile last) ps) (flat_map (deadlines_of last) ps) (pragmas_are last ps)
+pragmas_are last (p ∷ ps) =
+    pragma_if last (is_pragma_of_profile last p) p (filter (is_pragma_of_profile last) ps) (flat_map (deadlines_of last) ps) (pragmas_are last ps)
 
 -- the EDF ranges of a source
 pub ranges_are : (pragmas : List Pragma) → deadline_ranges_of pragmas ≡ flat_map (deadlines_of (last_priority_of pragmas)) pragmas

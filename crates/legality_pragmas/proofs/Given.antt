@@ -12,13 +12,20 @@ use Rattle.ada_tree.specs.declared.units.Pragma.{Pragma}
 use Rattle.legality_pragmas.specs.Restrictions.{gives, gives_longest}
 
 -- the arguments of the first pragma, where it is a pragma Restrictions, and of those behind it
-any_in : (test : Argument Expression → Bool) (b : Bool) (p : Pragma) (ps : List Pragma) (given : Bool) → list_any test (flat_map (λ q. all_of q.arguments) ps) ≡ given → list_any test (flat_map (λ q. all_of q.arguments) (cond b (p ∷ ps) ps)) ≡ ((b && list_any test (all_of p.arguments)) || given)
-any_in test true p ps given e = list_any-append test (all_of p.arguments) (flat_map (λ q. all_of q.arguments) ps) ∙ ap (λ c. list_any test (all_of p.arguments) || c) e
+any_in : (test : Argument Expression → Bool) (b : Bool) (p : Pragma) (ps : List Pragma) (given : Bool)
+    → list_any test (flat_map (λ q. all_of q.arguments) ps) ≡ given
+    → list_any test (flat_map (λ q. all_of q.arguments) (cond b (p ∷ ps) ps)) ≡ ((b && list_any test (all_of p.arguments)) || given)
+any_in test true p ps given e =
+    list_any-append test (all_of p.arguments) (flat_map (λ q. all_of q.arguments) ps) ∙ ap (λ c. list_any test (all_of p.arguments) || c) e
 any_in test false p ps given e = e
 
-any_of : (test : Argument Expression → Bool) (ps : List Pragma) → list_any test (flat_map (λ q. all_of q.arguments) (filter (is_pragma_named (codes "restrictions")) ps)) ≡ list_any (λ p. is_pragma_named (codes "restrictions") p && list_any test (all_of p.arguments)) ps
+any_of : (test : Argument Expression → Bool) (ps : List Pragma)
+    → list_any test (flat_map (λ q. all_of q.arguments) (filter (is_pragma_named (codes "restrictions")) ps))
+    ≡ list_any (λ p. is_pragma_named (codes "restrictions") p && list_any test (all_of p.arguments)) ps
 any_of test [] = refl
-any_of test (p ∷ ps) = any_in test (is_pragma_named (codes "restrictions") p) p (filter (is_pragma_named (codes "restrictions")) ps) (list_any (λ q. is_pragma_named (codes "restrictions") q && list_any test (all_of q.arguments)) ps) (any_of test ps)
+any_of test (p ∷ ps) =
+    any_in test (is_pragma_named (codes "restrictions") p) p (filter (is_pragma_named (codes "restrictions")) ps)
+    (list_any (λ q. is_pragma_named (codes "restrictions") q && list_any test (all_of q.arguments)) ps) (any_of test ps)
 
 -- a restriction is given where a pragma gives it
 pub given_is : (pragmas : List Pragma) (name : List ℕ) → is_given (restriction_arguments pragmas) name ≡ list_any (gives name) pragmas
@@ -49,7 +56,9 @@ some_where false o given e = refl
 
 some_in_pragma : (p : Pragma) → is_some (longest_in p) ≡ gives_longest p
 unfolding longest_in
-some_in_pragma p = some_where (is_pragma_named (codes "restrictions") p) (longest_in_arguments (all_of p.arguments)) (list_any (λ a. is_longest a.formal) (all_of p.arguments)) (some_in (all_of p.arguments))
+some_in_pragma p =
+    some_where (is_pragma_named (codes "restrictions") p) (longest_in_arguments (all_of p.arguments)) (list_any (λ a. is_longest a.formal) (all_of p.arguments))
+    (some_in (all_of p.arguments))
 
 -- the length of entry queues is limited where a pragma limits it
 pub longest_is : (pragmas : List Pragma) → is_some (longest_of pragmas) ≡ list_any gives_longest pragmas

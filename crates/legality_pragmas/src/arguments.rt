@@ -1,5 +1,6 @@
 //! Arguments of pragmas: a word, or a static number (ISO/IEC 8652:2012, 2.8).
-ghost use Rattle.std.specs.Prelude.{◌≡◌, None, Some, cond, neg_ℤ, option_copied, option_map, pos, IfOk};
+ghost use Rattle.std.specs.Prelude.{◌≡◌, None, Some, cond, neg_ℤ};
+ghost use Rattle.std.specs.Prelude.{option_copied, option_map, pos, IfOk};
 ghost use Rattle.std.specs.List.{list_any};
 ghost use Rattle.std.specs.Str.{bytes_eq};
 ghost use Rattle.ada_lex.specs.Meaning.{decimals_of, whole_of};
@@ -7,7 +8,9 @@ ghost use Rattle.ann_base.specs.Lists.{is_empty};
 ghost use Rattle.ada_tree.specs.declared.expressions.Expression.TheViews.{out-Expression};
 ghost use Rattle.ada_tree.specs.declared.expressions.ExpressionForm.TheVariants as form;
 ghost use Rattle.legality_pragmas.specs.Arguments.{signed_number};
-ghost use Rattle.ada_legality.specs.Pragmas.{end_of_range, integer_behind, integer_named, integer_names, lone_word, number_in, number_of_form, plain_word, whole_literal, word_in};
+ghost use Rattle.ada_legality.specs.Pragmas.{end_of_range, integer_behind, integer_named};
+ghost use Rattle.ada_legality.specs.Pragmas.{integer_names, lone_word, number_in};
+ghost use Rattle.ada_legality.specs.Pragmas.{number_of_form, plain_word, whole_literal, word_in};
 
 use ada_legality::Number;
 use ada_lex::decimals;

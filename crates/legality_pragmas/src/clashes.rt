@@ -1,9 +1,12 @@
-//! Pragmas that break a rule (ISO/IEC 8652:2012, 2.8, D.2.2): a policy is given once, ranges of priorities do not overlap, and
-//! one policy for all does not stand beside one for some.
+//! Pragmas that break a rule (ISO/IEC 8652:2012, 2.8, D.2.2): a policy is given once, ranges of
+//! priorities do not overlap, and one policy for all does not stand beside one for some.
 ghost use Rattle.std.specs.Prelude.{◌≡◌, ◌++◌, ◌≤◌, [], ◌∷◌, codes, length, take, IfOk, OnOk};
 ghost use Rattle.std.specs.List.{list_any};
 ghost use Rattle.std.specs.Str.{bytes_eq};
-ghost use Rattle.ada_legality.specs.Pragmas.{given_once, is_given_again, is_pragma_named, is_wrong_pragma, overlaps_before, pair_of, pragmas_judged, range_of_pragma, specific_numbers, stands_beside_specific, wrong_pragmas};
+ghost use Rattle.ada_legality.specs.Pragmas.{given_once, is_given_again, is_pragma_named};
+ghost use Rattle.ada_legality.specs.Pragmas.{is_wrong_pragma, overlaps_before, pair_of};
+ghost use Rattle.ada_legality.specs.Pragmas.{pragmas_judged, range_of_pragma, specific_numbers};
+ghost use Rattle.ada_legality.specs.Pragmas.{stands_beside_specific, wrong_pragmas};
 ghost use Rattle.ada_legality.specs.Choices.{meet};
 ghost use Rattle.legality_pragmas.specs.Judging.{judged_along, pragma_judged};
 

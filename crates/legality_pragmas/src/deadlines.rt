@@ -1,4 +1,5 @@
-//! The ranges of priorities that are dispatched by deadlines (ISO/IEC 8652:2012, D.2.6; this profile's own).
+//! The ranges of priorities that are dispatched by deadlines (ISO/IEC 8652:2012, D.2.6; this
+//! profile's own).
 ghost use Rattle.std.specs.Prelude.{◌≡◌, ◌++◌, IfOk, OnOk};
 ghost use Rattle.std.specs.List.{flat_map};
 ghost use Rattle.ada_image.specs.PoliciesOfImage.{ranges_of_pragma};
@@ -105,7 +106,8 @@ fn ranges_under(
     Ok(ranges)
 }
 
-/// The ranges of priorities that the pragmas of the profile have dispatched by deadlines, in their order.
+/// The ranges of priorities that the pragmas of the profile have dispatched by deadlines, in their
+/// order.
 #[tactic(auto, using(crate::proofs::Alone::ranges_are))]
 pub fn deadline_ranges_of(
     alloc: Global,

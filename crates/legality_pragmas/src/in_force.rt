@@ -1,6 +1,7 @@
 //! What the pragmas of a source forbid or limit (ISO/IEC 8652:2012, 13.12, D.2.6, D.7).
 ghost use Rattle.std.specs.Prelude.{◌≡◌, codes, IfOk};
-ghost use Rattle.ada_legality.specs.InForce.{in_force_by, in_force_with, is_given, least_limit_in, restriction_arguments};
+ghost use Rattle.ada_legality.specs.InForce.{in_force_by, in_force_with, is_given};
+ghost use Rattle.ada_legality.specs.InForce.{least_limit_in, restriction_arguments};
 
 use crate::deadlines::deadline_ranges_of;
 use crate::restrictions::{has_longest, is_given, least_limit_in};

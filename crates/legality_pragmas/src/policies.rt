@@ -1,9 +1,11 @@
-//! Pragmas that name one policy, or a policy and two priorities (ISO/IEC 8652:2012, D.2.2, D.3, D.4).
+//! Pragmas that name one policy, or a policy and two priorities (ISO/IEC 8652:2012, D.2.2, D.3,
+//! D.4).
 ghost use Rattle.std.specs.Prelude.{◌≡◌, ◌&&◌, [], ◌∷◌, codes, option_copied, IfOk};
 ghost use Rattle.std.specs.List.{list_any};
 ghost use Rattle.std.specs.Str.{bytes_eq};
 ghost use Rattle.ada_regions.specs.Words.{all_of};
-ghost use Rattle.ada_legality.specs.Pragmas.{is_one_word, is_policy, is_range_of_priorities, is_specific, policy_names, queuing_names, words_in};
+ghost use Rattle.ada_legality.specs.Pragmas.{is_one_word, is_policy, is_range_of_priorities};
+ghost use Rattle.ada_legality.specs.Pragmas.{is_specific, policy_names, queuing_names, words_in};
 ghost use Rattle.legality_pragmas.specs.Arguments.{only_word};
 
 use crate::arguments::{number_in, word_in};

@@ -1,10 +1,13 @@
-//! Pragmas of the profile, with their arguments (ISO/IEC 8652:2012, 2.8, 13.12, D.2.2, D.3, D.4, D.7).
+//! Pragmas of the profile, with their arguments (ISO/IEC 8652:2012, 2.8, 13.12, D.2.2, D.3, D.4,
+//! D.7).
 ghost use Rattle.std.specs.Prelude.{◌≡◌, ◌&&◌, pos, IfOk};
 ghost use Rattle.profile_image.specs.declared.limits.TheConstants.{INTEGER_LAST};
 ghost use Rattle.std.specs.List.{list_all, list_any};
 ghost use Rattle.std.specs.Str.{bytes_eq};
 ghost use Rattle.ada_regions.specs.Words.{all_of};
-ghost use Rattle.ada_legality.specs.Pragmas.{is_numbered_restriction, is_pragma_of_profile, is_restriction, restrictions_with_number, restrictions_without_number, word_in};
+ghost use Rattle.ada_legality.specs.Pragmas.{is_numbered_restriction, is_pragma_of_profile};
+ghost use Rattle.ada_legality.specs.Pragmas.{is_restriction, restrictions_with_number};
+ghost use Rattle.ada_legality.specs.Pragmas.{restrictions_without_number, word_in};
 ghost use Rattle.ada_legality.specs.Words.{lies_between};
 ghost use Rattle.legality_pragmas.specs.Arguments.{is_among};
 

@@ -4,8 +4,10 @@ ghost use Rattle.std.specs.List.{list_any};
 ghost use Rattle.ada_image.specs.PoliciesOfImage.{is_longest, longest_of};
 ghost use Rattle.ada_regions.specs.Words.{all_of};
 ghost use Rattle.ada_legality.specs.Pragmas.{is_pragma_named};
-ghost use Rattle.ada_legality.specs.InForce.{gives_restriction, is_given, is_named_as, least_limit, least_limit_in, limit_in, restriction_arguments};
-ghost use Rattle.legality_pragmas.specs.Restrictions.{gives, gives_longest, least_before, least_with};
+ghost use Rattle.ada_legality.specs.InForce.{gives_restriction, is_given, is_named_as, least_limit};
+ghost use Rattle.ada_legality.specs.InForce.{least_limit_in, limit_in, restriction_arguments};
+ghost use Rattle.legality_pragmas.specs.Restrictions.{gives, gives_longest};
+ghost use Rattle.legality_pragmas.specs.Restrictions.{least_before, least_with};
 
 use crate::arguments::{number_in, word_in};
 use ada_legality::Number;
@@ -111,7 +113,8 @@ fn least_here(
     Ok(least_limit(limit, later))
 }
 
-/// The least of the limits that arguments give, and a later one. The last argument's is looked at first.
+/// The least of the limits that arguments give, and a later one. The last argument's is looked at
+/// first.
 #[tactic(auto, using(crate::proofs::Limits::argument_laws))]
 fn least_with(
     name: &[u8],

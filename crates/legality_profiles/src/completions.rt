@@ -1,7 +1,9 @@
-//! Completions (ISO/IEC 8652:2012, 3.11.1, 6.3.1, 9.5.2): a declaration that needs a body, a body, and its profile beside that
-//! of its declaration.
+//! Completions (ISO/IEC 8652:2012, 3.11.1, 6.3.1, 9.5.2): a declaration that needs a body, a body,
+//! and its profile beside that of its declaration.
 ghost use Rattle.std.specs.Prelude.{◌≡◌, ◌++◌, OnOk};
-ghost use Rattle.ada_legality.specs.Profiles.{accept_conforms, body_noted, body_profile_judged, declaration_noted, entry_body_profile_judged, other_profile_if};
+ghost use Rattle.ada_legality.specs.Profiles.{accept_conforms, body_noted};
+ghost use Rattle.ada_legality.specs.Profiles.{body_profile_judged, declaration_noted};
+ghost use Rattle.ada_legality.specs.Profiles.{entry_body_profile_judged, other_profile_if};
 
 use crate::conformance::{conforms, conforms_to};
 use crate::declared::{entry_declared_as, specification_of};

@@ -1,6 +1,8 @@
-//! Conformance of profiles (ISO/IEC 8652:2012, 6.3.1): as many parameters, of the same names, modes and subtypes.
+//! Conformance of profiles (ISO/IEC 8652:2012, 6.3.1): as many parameters, of the same names, modes
+//! and subtypes.
 ghost use Rattle.std.specs.Prelude.{◌≡◌, is_some, not, slice_get, IfOk};
-ghost use Rattle.ada_legality.specs.Profiles.{all_same_parameters, conforms, conforms_to, same_parameter};
+ghost use Rattle.ada_legality.specs.Profiles.{all_same_parameters, conforms};
+ghost use Rattle.ada_legality.specs.Profiles.{conforms_to, same_parameter};
 ghost use Rattle.legality_profiles.specs.Beside.{same_along, same_beside};
 ghost use Rattle.legality_profiles.specs.Shown.{named_shown};
 

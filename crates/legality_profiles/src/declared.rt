@@ -1,7 +1,9 @@
-//! Declarations of subprograms and entries, by the names of the whole source (ISO/IEC 8652:2012, 6.1, 9.5.2).
+//! Declarations of subprograms and entries, by the names of the whole source (ISO/IEC 8652:2012,
+//! 6.1, 9.5.2).
 ghost use Rattle.std.specs.Prelude.{◌≡◌, map, option_copied};
 ghost use Rattle.ada_regions.specs.Shown.{occurrence_shown};
-ghost use Rattle.ada_legality.specs.Profiles.{declares_entity, entry_declared_as, entry_in, specification_in, specification_of};
+ghost use Rattle.ada_legality.specs.Profiles.{declares_entity, entry_declared_as, entry_in};
+ghost use Rattle.ada_legality.specs.Profiles.{specification_in, specification_of};
 
 use ada_entities::entity_denoted;
 use ada_regions::{Names, Occurrence, Occurrences};

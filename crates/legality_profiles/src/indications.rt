@@ -1,7 +1,9 @@
 //! Subtype indications and modes that are the same (ISO/IEC 8652:2012, 6.3.1).
 ghost use Rattle.std.specs.Prelude.{◌≡◌};
 ghost use Rattle.ada_legality.specs.CallStatements.{has_range};
-ghost use Rattle.ada_legality.specs.Profiles.{mode_of_parameter, range_of_indication, same_ends, same_indication, same_indication_if, same_pairs, same_ranges};
+ghost use Rattle.ada_legality.specs.Profiles.{mode_of_parameter, range_of_indication};
+ghost use Rattle.ada_legality.specs.Profiles.{same_ends, same_indication};
+ghost use Rattle.ada_legality.specs.Profiles.{same_indication_if, same_pairs, same_ranges};
 ghost use Rattle.ada_legality.specs.SimpleStatements.{same_mode};
 
 use ada_legality::Span;

@@ -1,5 +1,5 @@
-//! Conformance of profiles, and what completes a declaration (ISO/IEC 8652:2012, 3.11.1, 6.3.1). Each function has the name of
-//! the definition of `ada_legality` of which it is the counterpart.
+//! Conformance of profiles, and what completes a declaration (ISO/IEC 8652:2012, 3.11.1, 6.3.1).
+//! Each function has the name of the definition of `ada_legality` of which it is the counterpart.
 #![tactic(auto)]
 
 mod completions;

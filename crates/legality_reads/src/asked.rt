@@ -1,7 +1,10 @@
 //! Expressions where a type is asked (ISO/IEC 8652:2012, 6.4, 8.6).
 ghost use Rattle.std.specs.Prelude.{◌≡◌, ◌++◌, OnOk};
 ghost use Rattle.ada_legality.specs.Types.{is_discrete, typed_is};
-ghost use Rattle.ada_legality.specs.Reading.{rule_asked, value_judged, is_discrete_or_refused, calls_function, call_inside, literal_as_operand, as_operand, whole_asked, pointed_asked, asked_of, fitted, expected, pointed_if, without_point};
+ghost use Rattle.ada_legality.specs.Reading.{rule_asked, value_judged, is_discrete_or_refused};
+ghost use Rattle.ada_legality.specs.Reading.{calls_function, call_inside, literal_as_operand};
+ghost use Rattle.ada_legality.specs.Reading.{as_operand, whole_asked, pointed_asked, asked_of};
+ghost use Rattle.ada_legality.specs.Reading.{fitted, expected, pointed_if, without_point};
 
 use crate::literals::{duration_literal, integer_literal, literal_in, other_pointed_literal};
 use ada_legality::{Asked, Finding, Literal, Read, Rule, Shape, Typed};

@@ -3,7 +3,9 @@ ghost use Rattle.std.specs.Prelude.{◌≡◌};
 ghost use Rattle.ada_regions.specs.Names.{denoted_by};
 ghost use Rattle.ada_regions.specs.Subtypes.{mark_denoted};
 ghost use Rattle.ada_regions.specs.Words.{and_then};
-ghost use Rattle.ada_legality.specs.Reading.{short_length, longest, length_of_image, length_by_mark, image_length, both_lengths, length_if_joined, type_of_prefix};
+ghost use Rattle.ada_legality.specs.Reading.{short_length, longest, length_of_image};
+ghost use Rattle.ada_legality.specs.Reading.{length_by_mark, image_length, both_lengths};
+ghost use Rattle.ada_legality.specs.Reading.{length_if_joined, type_of_prefix};
 
 use ada_entities::denoted_by;
 use ada_legality::Known;

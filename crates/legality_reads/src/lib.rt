@@ -1,5 +1,6 @@
-//! What expressions are read as, and what is asked of one that is read, in its place (ISO/IEC 8652:2012, 2.4, 4.4, 4.5, 8.6,
-//! A.10.7). Each function has the name of the definition of `ada_legality` of which it is the counterpart.
+//! What expressions are read as, and what is asked of one that is read, in its place (ISO/IEC
+//! 8652:2012, 2.4, 4.4, 4.5, 8.6, A.10.7). Each function has the name of the definition of
+//! `ada_legality` of which it is the counterpart.
 #![tactic(auto)]
 
 mod asked;

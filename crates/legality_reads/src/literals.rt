@@ -2,7 +2,9 @@
 ghost use Rattle.std.specs.Prelude.{◌≡◌, ◌++◌, ◌<◌, ◌^◌, leb, OnOk};
 ghost use Rattle.ada_regions.specs.Numbered.{no_place};
 ghost use Rattle.ada_lex.specs.Meaning.{whole_of};
-ghost use Rattle.ada_legality.specs.Reading.{no_literal, literal_in, lies_in_duration, literal_at, with_minus, integer_literal, duration_literal, other_pointed_literal};
+ghost use Rattle.ada_legality.specs.Reading.{no_literal, literal_in, lies_in_duration};
+ghost use Rattle.ada_legality.specs.Reading.{literal_at, with_minus, integer_literal};
+ghost use Rattle.ada_legality.specs.Reading.{duration_literal, other_pointed_literal};
 
 use ada_legality::{Finding, Literal, Read, Rule};
 use ada_lex::{decimals, whole_value};

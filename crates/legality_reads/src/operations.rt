@@ -1,6 +1,7 @@
 //! Operators and their operands (ISO/IEC 8652:2012, 4.5).
 ghost use Rattle.std.specs.Prelude.{◌≡◌, ◌++◌, OnOk};
-ghost use Rattle.ada_legality.specs.Reading.{as_operand, operation_judged, concatenation_judged, operation_of_one_judged, signed_judged, sum_judged};
+ghost use Rattle.ada_legality.specs.Reading.{as_operand, operation_judged, concatenation_judged};
+ghost use Rattle.ada_legality.specs.Reading.{operation_of_one_judged, signed_judged, sum_judged};
 
 use crate::asked::as_operand;
 use crate::reads::is_number;

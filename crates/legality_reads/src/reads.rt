@@ -4,7 +4,12 @@ ghost use Rattle.ada_lex.specs.Meaning.{decimals_of};
 ghost use Rattle.ann_base.specs.Lists.{is_empty};
 ghost use Rattle.ada_legality.specs.declared.reading.Typed.TheVariants as typing;
 ghost use Rattle.ada_legality.specs.Types.{operation_type_of_one, typed_if};
-ghost use Rattle.ada_legality.specs.Reading.{with_minus, plain_read, is_number, number_read, text_read, bracketed_read, signed_read, is_barrier_operator, is_not, typed_operation, typed_join, typed_sum, first_relation, with_relation, compared_read, first_term, with_term, with_factor, highest_read};
+ghost use Rattle.ada_legality.specs.Reading.{with_minus, plain_read, is_number, number_read};
+ghost use Rattle.ada_legality.specs.Reading.{text_read, bracketed_read, signed_read};
+ghost use Rattle.ada_legality.specs.Reading.{is_barrier_operator, is_not, typed_operation};
+ghost use Rattle.ada_legality.specs.Reading.{typed_join, typed_sum, first_relation};
+ghost use Rattle.ada_legality.specs.Reading.{with_relation, compared_read, first_term};
+ghost use Rattle.ada_legality.specs.Reading.{with_term, with_factor, highest_read};
 
 use crate::lengths::{both_lengths, length_if_joined, short_length};
 use crate::literals::{literal_at, with_minus};

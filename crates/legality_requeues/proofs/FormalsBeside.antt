@@ -9,7 +9,8 @@ grouped : (a : Bool) (b : Bool) (c : Bool) → (a && (b && c)) ≡ ((a && b) && 
 grouped true b c = refl
 grouped false b c = refl
 
-first_beside : (f : Formal) (fs : List Formal) (others : List Formal) (at : ℕ) → same_formals (f ∷ fs) (drop at others) ≡ (same_beside f (slice_get others at) && same_formals fs (drop (suc at) others))
+first_beside : (f : Formal) (fs : List Formal) (others : List Formal) (at : ℕ)
+    → same_formals (f ∷ fs) (drop at others) ≡ (same_beside f (slice_get others at) && same_formals fs (drop (suc at) others))
 unfolding same_formals
 first_beside f fs [] zero = refl
 first_beside f fs [] (suc at) = refl

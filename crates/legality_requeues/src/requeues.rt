@@ -1,5 +1,6 @@
 //! Aborts and requeues (ISO/IEC 8652:2012, 9.5.4, 9.8, D.7).
-ghost use Rattle.std.specs.Prelude.{◌≡◌, ◌++◌, ◌&&◌, OnOk, is_some, not, option_copied, option_map, slice_get, unwrap_or, false};
+ghost use Rattle.std.specs.Prelude.{◌≡◌, ◌++◌, ◌&&◌, OnOk, is_some, not, option_copied};
+ghost use Rattle.std.specs.Prelude.{option_map, slice_get, unwrap_or, false};
 ghost use Rattle.std.specs.List.{flat_map, list_all};
 ghost use Rattle.ada_regions.specs.Words.{all_of, and_then};
 ghost use Rattle.ann_base.specs.Lists.{is_empty};
@@ -9,7 +10,13 @@ ghost use Rattle.ada_legality.specs.Types.{same_type_if};
 ghost use Rattle.ada_legality.specs.Values.{denotes_value, is_denoted, kind_of_name};
 ghost use Rattle.ada_legality.specs.Words.{any_in_body, is_accept};
 ghost use Rattle.ada_legality.specs.ReadExpressions.{unless_denoted};
-ghost use Rattle.ada_legality.specs.SimpleStatements.{is_task_or_unclear, is_task_name, abort_found, entry_of, accept_or_entry, names_unit_around, is_of_same_object, is_task_entry, is_possible_target, type_of_formal, same_mode, same_formals, formals_of_entry, formals_fit, requeues_from, is_right_requeue, requeue_found};
+ghost use Rattle.ada_legality.specs.SimpleStatements.{is_task_or_unclear, is_task_name};
+ghost use Rattle.ada_legality.specs.SimpleStatements.{abort_found, entry_of, accept_or_entry};
+ghost use Rattle.ada_legality.specs.SimpleStatements.{names_unit_around, is_of_same_object};
+ghost use Rattle.ada_legality.specs.SimpleStatements.{is_task_entry, is_possible_target};
+ghost use Rattle.ada_legality.specs.SimpleStatements.{type_of_formal, same_mode, same_formals};
+ghost use Rattle.ada_legality.specs.SimpleStatements.{formals_of_entry, formals_fit, requeues_from};
+ghost use Rattle.ada_legality.specs.SimpleStatements.{is_right_requeue, requeue_found};
 ghost use Rattle.legality_requeues.specs.Formals.{same_along, same_beside};
 
 use ada_entities::{denoted_by, kind_at};
@@ -319,7 +326,8 @@ fn own_entry_has(known: &Known<'_, '_>, own: Option<u32>, target: &[Formal]) -> 
     }
 }
 
-/// The target has no formals, or the same as the entry of the requeue's accept statement or entry body.
+/// The target has no formals, or the same as the entry of the requeue's accept statement or entry
+/// body.
 #[tactic(auto, unfolding(ada_legality::specs::SimpleStatements::formals_fit))]
 fn target_fits(known: &Known<'_, '_>, name: &Name, own: Option<u32>) -> bool
     ensures { result

@@ -2,7 +2,12 @@
 ghost use Rattle.std.specs.Prelude.{◌≡◌, ◌++◌, OnOk};
 ghost use Rattle.ada_legality.specs.Types.{is_copied_controlled, is_limited, typed_is};
 ghost use Rattle.ada_legality.specs.Values.{denotes_object, is_denoted};
-ghost use Rattle.ada_legality.specs.SimpleStatements.{may_be_target, typed_target, type_of_index_of, names_declared_object, same_types, copies_a_parameter, is_wrong_target, assignment_judged, target_judged, assignment_found, delay_type, delay_found};
+ghost use Rattle.ada_legality.specs.SimpleStatements.{may_be_target, typed_target};
+ghost use Rattle.ada_legality.specs.SimpleStatements.{type_of_index_of, names_declared_object};
+ghost use Rattle.ada_legality.specs.SimpleStatements.{same_types, copies_a_parameter};
+ghost use Rattle.ada_legality.specs.SimpleStatements.{is_wrong_target, assignment_judged};
+ghost use Rattle.ada_legality.specs.SimpleStatements.{target_judged, assignment_found};
+ghost use Rattle.ada_legality.specs.SimpleStatements.{delay_type, delay_found};
 
 use ada_entities::denoted_by;
 use ada_legality::{Asked, Finding, Known, Read, Rule, Shape, Typed};

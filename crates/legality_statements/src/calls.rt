@@ -3,7 +3,8 @@ ghost use Rattle.std.specs.Prelude.{◌≡◌, ◌++◌, [], OnOk, option_map, u
 ghost use Rattle.ada_legality.specs.Calls.{actual_from, formals_denoted};
 ghost use Rattle.ada_legality.specs.Reading.{actuals_judged};
 ghost use Rattle.ada_legality.specs.Values.{denotes_procedure, is_denoted};
-ghost use Rattle.ada_legality.specs.CallStatements.{is_put_line, line_judged, line_if_put, call_judged, call_found};
+ghost use Rattle.ada_legality.specs.CallStatements.{is_put_line, line_judged};
+ghost use Rattle.ada_legality.specs.CallStatements.{line_if_put, call_judged, call_found};
 
 use ada_entities::denoted_by;
 use ada_legality::{ActualPart, Finding, Known, Read, Rule};

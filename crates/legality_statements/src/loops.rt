@@ -1,7 +1,9 @@
 //! The heads of loops and selects (ISO/IEC 8652:2012, 5.5, 9.7).
 ghost use Rattle.std.specs.Prelude.{◌≡◌, ◌++◌, OnOk, IfOk, false};
 ghost use Rattle.ada_tree.specs.declared.statements.Iteration.TheVariants as iteration;
-ghost use Rattle.ada_legality.specs.SimpleStatements.{range_if_static, loop_parameter, with_iteration, iteration_found, guard_found, trigger_found, entry_call_found};
+ghost use Rattle.ada_legality.specs.SimpleStatements.{range_if_static, loop_parameter};
+ghost use Rattle.ada_legality.specs.SimpleStatements.{with_iteration, iteration_found, guard_found};
+ghost use Rattle.ada_legality.specs.SimpleStatements.{trigger_found, entry_call_found};
 
 use crate::assignments::delay_found;
 use crate::calls::call_found;

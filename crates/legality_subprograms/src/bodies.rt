@@ -1,7 +1,8 @@
 //! The heads of subprograms' bodies (ISO/IEC 8652:2012, 6.3).
 ghost use Rattle.std.specs.Prelude.{◌≡◌, ◌++◌, OnOk, option_map};
 ghost use Rattle.ada_legality.specs.CallStatements.{type_of_mark};
-ghost use Rattle.ada_legality.specs.Declarations.{function_noted, subprogram_body_judged, subprogram_here};
+ghost use Rattle.ada_legality.specs.Declarations.{function_noted, subprogram_body_judged};
+ghost use Rattle.ada_legality.specs.Declarations.{subprogram_here};
 
 use crate::overriding::{overriding_judged, place_of_specification};
 use ada_entities::entity_denoted;

@@ -1,10 +1,16 @@
 //! What overrides the operations of controlled types (ISO/IEC 8652:2012, 7.6, 8.3.1).
-ghost use Rattle.std.specs.Prelude.{◌≡◌, ◌++◌, IfOk, OnOk, option_copied, option_map, unwrap_or, false};
+ghost use Rattle.std.specs.Prelude.{◌≡◌, ◌++◌, IfOk, OnOk, option_copied};
+ghost use Rattle.std.specs.Prelude.{option_map, unwrap_or, false};
 ghost use Rattle.std.specs.List.{list_any};
 ghost use Rattle.std.specs.Str.{bytes_eq};
 ghost use Rattle.ada_regions.specs.Words.{same_place};
 ghost use Rattle.ada_regions.specs.Names.{entity_at};
-ghost use Rattle.ada_legality.specs.Declarations.{completes_declaration, controlled_names, declares_here, is_operation_name, is_overriding, is_specified_name, looks_overriding, numbered_of, of_controlled_type, overrides_any, overrides_some, overrides_type, overrides_wrongly, overriding_judged};
+ghost use Rattle.ada_legality.specs.Declarations.{completes_declaration, controlled_names};
+ghost use Rattle.ada_legality.specs.Declarations.{declares_here, is_operation_name, is_overriding};
+ghost use Rattle.ada_legality.specs.Declarations.{is_specified_name, looks_overriding};
+ghost use Rattle.ada_legality.specs.Declarations.{numbered_of, of_controlled_type, overrides_any};
+ghost use Rattle.ada_legality.specs.Declarations.{overrides_some, overrides_type};
+ghost use Rattle.ada_legality.specs.Declarations.{overrides_wrongly, overriding_judged};
 
 use ada_completions::is_specified;
 use ada_entities::{entity_at, entity_denoted, same_place};
@@ -27,7 +33,8 @@ pub(crate) fn place_of_specification(specification: &SubprogramSpecification) ->
     specification.overriding.unwrap_or(specification.place)
 }
 
-/// A name of the operations of a controlled type; Adjust is one of a type derived from Controlled alone.
+/// A name of the operations of a controlled type; Adjust is one of a type derived from Controlled
+/// alone.
 fn is_controlled_name(name: &[u8], is_limited: bool) -> bool
     ensures { result ≡ list_any (bytes_eq name.now) (controlled_names is_limited) }
 {

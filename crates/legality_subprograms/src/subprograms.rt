@@ -3,7 +3,9 @@ ghost use Rattle.std.specs.Prelude.{◌≡◌, ◌++◌, OnOk};
 ghost use Rattle.ann_base.specs.Lists.{is_empty};
 ghost use Rattle.ada_legality.specs.CallStatements.{found_if, indication_found};
 ghost use Rattle.ada_legality.specs.Aspects.{aspects_found};
-ghost use Rattle.ada_legality.specs.Declarations.{is_parameterless_procedure, owner_of_aspects, specification_found, subprogram_found, unit_of_operation};
+ghost use Rattle.ada_legality.specs.Declarations.{is_parameterless_procedure};
+ghost use Rattle.ada_legality.specs.Declarations.{owner_of_aspects, specification_found};
+ghost use Rattle.ada_legality.specs.Declarations.{subprogram_found, unit_of_operation};
 
 use crate::overriding::{
     completes_declaration, is_overriding, numbered_of, overriding_judged, place_of_specification,

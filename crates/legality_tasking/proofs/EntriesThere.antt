@@ -17,11 +17,13 @@ nothing_from : (number : ℕ) (unit : EntryUnit) → not (is_empty (entries_from
 unfolding entries_from
 nothing_from number unit = refl
 
-one_more : (number : ℕ) (unit : EntryUnit) (e : NumberedEntry) (es : List NumberedEntry) (c : Bool) → not (is_empty (entries_from (suc number) unit es)) ≡ c → not (is_empty (entries_from number unit (e ∷ es))) ≡ (same_entry_unit e.unit unit || c)
+one_more : (number : ℕ) (unit : EntryUnit) (e : NumberedEntry) (es : List NumberedEntry) (c : Bool) → not (is_empty (entries_from (suc number) unit es)) ≡ c
+    → not (is_empty (entries_from number unit (e ∷ es))) ≡ (same_entry_unit e.unit unit || c)
 unfolding entries_from
 one_more number unit e es c h = there (same_entry_unit e.unit unit) (entry_no number) (entries_from (suc number) unit es) c h
 
-from_there : (number : ℕ) (unit : EntryUnit) (es : List NumberedEntry) → not (is_empty (entries_from number unit es)) ≡ list_any (λ e. same_entry_unit e.unit unit) es
+from_there : (number : ℕ) (unit : EntryUnit) (es : List NumberedEntry)
+    → not (is_empty (entries_from number unit es)) ≡ list_any (λ e. same_entry_unit e.unit unit) es
 from_there number unit [] = nothing_from number unit
 from_there number unit (e ∷ es) = one_more number unit e es (list_any (λ x. same_entry_unit x.unit unit) es) (from_there (suc number) unit es)
 

@@ -4,7 +4,9 @@ ghost use Rattle.std.specs.List.{flat_map};
 ghost use Rattle.ada_legality.specs.CallStatements.{all_found, beyond};
 ghost use Rattle.ada_legality.specs.Numbers.{size_in};
 ghost use Rattle.ada_legality.specs.SimpleStatements.{beyond_restriction};
-ghost use Rattle.ada_legality.specs.Declarations.{entries_judged, entries_noted, entries_of_definition, entry_noted, entry_of_operation, most_entries};
+ghost use Rattle.ada_legality.specs.Declarations.{entries_judged, entries_noted};
+ghost use Rattle.ada_legality.specs.Declarations.{entries_of_definition, entry_noted};
+ghost use Rattle.ada_legality.specs.Declarations.{entry_of_operation, most_entries};
 
 use ada_legality::{BodyKind, Finding, InForce, Known, MOST_ENTRIES, Number, Rule};
 use ada_tree::{EntryDeclaration, ProtectedOperation, TaskDefinition};

@@ -1,6 +1,8 @@
 //! The heads of units' and entries' bodies (ISO/IEC 8652:2012, 9.1, 9.4, 9.5.2, D.7).
 ghost use Rattle.std.specs.Prelude.{◌≡◌, ◌++◌, OnOk};
-ghost use Rattle.ada_legality.specs.Declarations.{barrier_found, barrier_judged, entry_body_judged, entry_profile_if, is_simple_barrier, is_unit_of, unit_body_judged, unit_here};
+ghost use Rattle.ada_legality.specs.Declarations.{barrier_found, barrier_judged, entry_body_judged};
+ghost use Rattle.ada_legality.specs.Declarations.{entry_profile_if, is_simple_barrier, is_unit_of};
+ghost use Rattle.ada_legality.specs.Declarations.{unit_body_judged, unit_here};
 
 use crate::tasks::type_of_identifier;
 use ada_completions::is_unit;

@@ -1,6 +1,11 @@
-//! Objects that are protected or limited, and the tasks of timers (ISO/IEC 8652:2012, 7.5, 9.4, D.14, D.15).
+//! Objects that are protected or limited, and the tasks of timers (ISO/IEC 8652:2012, 7.5, 9.4,
+//! D.14, D.15).
 ghost use Rattle.std.specs.Prelude.{◌≡◌, ◌++◌, ◌∷◌, [], OnOk, option_map, unwrap_or};
-ghost use Rattle.ada_legality.specs.Declarations.{constant_noted, is_aliased_constant, library_entity, protected_noted, protected_number, protected_unit_of_name, task_named, timer_noted, typed_object_if, typed_object_judged};
+ghost use Rattle.ada_legality.specs.Declarations.{constant_noted, is_aliased_constant};
+ghost use Rattle.ada_legality.specs.Declarations.{library_entity, protected_noted};
+ghost use Rattle.ada_legality.specs.Declarations.{protected_number, protected_unit_of_name};
+ghost use Rattle.ada_legality.specs.Declarations.{task_named, timer_noted, typed_object_if};
+ghost use Rattle.ada_legality.specs.Declarations.{typed_object_judged};
 
 use crate::tasks::{is_library_name, type_of_identifier};
 use ada_entities::entity_denoted;
@@ -135,8 +140,8 @@ fn timer_noted(
     }
 }
 
-/// An object of this type, where it is known: no limited one has an initial value; events, timers and group budgets stand in
-/// library packages (this profile's own).
+/// An object of this type, where it is known: no limited one has an initial value; events, timers
+/// and group budgets stand in library packages (this profile's own).
 #[tactic(auto, unfolding(ada_legality::specs::Declarations::typed_object_judged))]
 fn typed_object_judged(
     found: &mut List<Finding>,

@@ -2,7 +2,11 @@
 ghost use Rattle.std.specs.Prelude.{◌≡◌, ◌++◌, OnOk};
 ghost use Rattle.std.specs.List.{list_any};
 ghost use Rattle.ada_image.specs.UnitsOfImage.{same_entry_unit};
-ghost use Rattle.ada_legality.specs.Declarations.{has_entries, is_library_name, is_outside_deadlines, is_task_outside, is_task_outside_library, is_wrong_with_deadlines, single_task_judged, task_judged, type_of_identifier};
+ghost use Rattle.ada_legality.specs.Declarations.{has_entries, is_library_name};
+ghost use Rattle.ada_legality.specs.Declarations.{is_outside_deadlines, is_task_outside};
+ghost use Rattle.ada_legality.specs.Declarations.{is_task_outside_library};
+ghost use Rattle.ada_legality.specs.Declarations.{is_wrong_with_deadlines, single_task_judged};
+ghost use Rattle.ada_legality.specs.Declarations.{task_judged, type_of_identifier};
 
 use ada_legality::{Finding, Known, Rule};
 use ada_regions::{AdaType, Names, NumberedEntry, is_task_type, type_of_kind};
@@ -71,7 +75,8 @@ fn has_entries(names: &Names<'_>, t: AdaType) -> bool
     }
 }
 
-/// A task object with entries, or outside library packages: a source with an EDF range has none (this profile's own).
+/// A task object with entries, or outside library packages: a source with an EDF range has none
+/// (this profile's own).
 fn is_wrong_with_deadlines(known: &Known<'_, '_>, name: &Identifier, t: AdaType) -> bool
     ensures { result ≡ is_wrong_with_deadlines known.now name.now t }
 {

@@ -1,6 +1,9 @@
 //! The types of expressions (ISO/IEC 8652:2012, 4.4, 8.6).
 ghost use Rattle.std.specs.Prelude.{◌≡◌};
-ghost use Rattle.ada_legality.specs.Types.{typed_as, typed_if, typed_by, operand_type, has_type, is_text, is_pointed, operation_type, operation_type_of_one, fits, discrete_if, type_of_low, type_of_bounds};
+ghost use Rattle.ada_legality.specs.Types.{typed_as, typed_if, typed_by, operand_type};
+ghost use Rattle.ada_legality.specs.Types.{has_type, is_text, is_pointed};
+ghost use Rattle.ada_legality.specs.Types.{operation_type, operation_type_of_one, fits};
+ghost use Rattle.ada_legality.specs.Types.{discrete_if, type_of_low, type_of_bounds};
 
 use crate::kinds::{is_discrete, is_duration, is_integer};
 use crate::operators::{result_of, result_of_one};
@@ -96,8 +99,8 @@ pub fn operation_type_of_one(operator: UnaryOperator, a: Typed) -> Option<AdaTyp
     result_of_one(operator, a)
 }
 
-/// An expression of this type fits where that type is expected (8.6). One without a type fits, and the value of a literal is
-/// asked apart.
+/// An expression of this type fits where that type is expected (8.6). One without a type fits, and
+/// the value of a literal is asked apart.
 #[tactic(auto, unfolding(ada_legality::specs::Types::fits))]
 pub fn fits(typed: Typed, t: AdaType) -> bool
     ensures { result ≡ fits typed t }
@@ -132,7 +135,8 @@ fn type_of_low(low: Typed) -> Option<AdaType>
     }
 }
 
-/// The type of the values from one bound to another: that of the low one, where it is discrete, else that of the high one.
+/// The type of the values from one bound to another: that of the low one, where it is discrete,
+/// else that of the high one.
 #[tactic(auto, unfolding(ada_legality::specs::Types::type_of_bounds))]
 pub fn type_of_bounds(low: Typed, high: Typed) -> AdaType
     ensures { result ≡ type_of_bounds low high }

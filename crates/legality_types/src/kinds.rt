@@ -1,7 +1,12 @@
 //! Kinds of types (ISO/IEC 8652:2012, 3.2, 3.5, 7.5, 7.6, D.8, D.14, D.15).
 ghost use Rattle.std.specs.Prelude.{◌≡◌};
-ghost use Rattle.ada_regions.specs.TypeKinds.{is_task_type, is_protected_type, is_controlled_type, is_array_type};
-ghost use Rattle.ada_legality.specs.Types.{same_type_if, has_ranges, is_ordered, is_scalar, is_scalar_or_array, has_no_values, is_discrete, is_of_time, is_task_id, is_integer, is_boolean, is_duration, is_timer, is_event_timer_or_budget, is_root_controlled};
+ghost use Rattle.ada_regions.specs.TypeKinds.{is_task_type, is_protected_type};
+ghost use Rattle.ada_regions.specs.TypeKinds.{is_controlled_type, is_array_type};
+ghost use Rattle.ada_legality.specs.Types.{same_type_if, has_ranges, is_ordered};
+ghost use Rattle.ada_legality.specs.Types.{is_scalar, is_scalar_or_array, has_no_values};
+ghost use Rattle.ada_legality.specs.Types.{is_discrete, is_of_time, is_task_id};
+ghost use Rattle.ada_legality.specs.Types.{is_integer, is_boolean, is_duration, is_timer};
+ghost use Rattle.ada_legality.specs.Types.{is_event_timer_or_budget, is_root_controlled};
 
 use ada_legality::same_type;
 use ada_regions::{AdaType, is_array_type, is_controlled_type, is_protected_type, is_task_type};

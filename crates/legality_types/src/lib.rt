@@ -1,6 +1,6 @@
-//! Kinds of types, for which types each operator is defined, the types of expressions, and how what breaks a rule is found
-//! (ISO/IEC 8652:2012, 3.2, 4.5). Each function has the name of the definition of `ada_legality` of which it is the
-//! counterpart.
+//! Kinds of types, for which types each operator is defined, the types of expressions, and how what
+//! breaks a rule is found (ISO/IEC 8652:2012, 3.2, 4.5). Each function has the name of the
+//! definition of `ada_legality` of which it is the counterpart.
 #![tactic(auto)]
 
 mod expressions;

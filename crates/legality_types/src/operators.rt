@@ -1,6 +1,8 @@
 //! For which types each operator is defined (ISO/IEC 8652:2012, 4.5, D.8, D.14).
 ghost use Rattle.std.specs.Prelude.{◌≡◌};
-ghost use Rattle.ada_legality.specs.Types.{sum_of, difference_of, product_of, quotient_of, remainder_of, boolean_if, logical_of, equality_of, ordering_of, result_of, result_of_one};
+ghost use Rattle.ada_legality.specs.Types.{sum_of, difference_of, product_of, quotient_of};
+ghost use Rattle.ada_legality.specs.Types.{remainder_of, boolean_if, logical_of, equality_of};
+ghost use Rattle.ada_legality.specs.Types.{ordering_of, result_of, result_of_one};
 
 use crate::kinds::{is_boolean, is_duration, is_integer, is_ordered, is_scalar};
 use ada_legality::same_type;

@@ -2,7 +2,8 @@
 use Rattle.std.specs.Prelude.{◌++◌, false}
 use Rattle.std.specs.List.{flat_map}
 use Rattle.ada_legality.specs.CallStatements.{all_found, found_if}
-use Rattle.ada_legality.specs.Declarations.{entries_judged, entry_of_operation, operation_found, protected_component_found}
+use Rattle.ada_legality.specs.Declarations.{entries_judged, entry_of_operation}
+use Rattle.ada_legality.specs.Declarations.{operation_found, protected_component_found}
 use Rattle.ada_legality.specs.Findings.{Found}
 use Rattle.ada_legality.specs.declared.standing.Known.{Known}
 use Rattle.ada_tree.specs.declared.declarations.ProtectedDeclaration.{ProtectedDeclaration}

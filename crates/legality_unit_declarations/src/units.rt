@@ -1,7 +1,10 @@
 //! Task and protected declarations (ISO/IEC 8652:2012, 9.1, 9.4, D.1, D.3).
 ghost use Rattle.std.specs.Prelude.{◌≡◌, ◌++◌, OnOk};
 ghost use Rattle.ada_legality.specs.CallStatements.{all_found, found_if};
-ghost use Rattle.ada_legality.specs.Declarations.{ceiling_noted, operation_found, other_ceiling_noted, protected_component_found, protected_found, single_object_noted, task_found, task_priority_noted};
+ghost use Rattle.ada_legality.specs.Declarations.{ceiling_noted, operation_found};
+ghost use Rattle.ada_legality.specs.Declarations.{other_ceiling_noted, protected_component_found};
+ghost use Rattle.ada_legality.specs.Declarations.{protected_found, single_object_noted};
+ghost use Rattle.ada_legality.specs.Declarations.{task_found, task_priority_noted};
 ghost use Rattle.legality_unit_declarations.specs.ProtectedParts.{protected_parts};
 
 use ada_legality::{AspectOwner, AspectPart, BodyKind, Ceiling, Finding, Known};

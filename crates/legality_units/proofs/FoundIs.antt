@@ -10,7 +10,8 @@ none : (n : Names) → found_from [] n ≡ []
 unfolding found_from
 none n = refl
 
-one_more : (o : Occurrence) (os : Occurrences) (n : Names) → found_from (o ∷ os) n ≡ found_before n o ++ (found_behind (behind o n) o ++ found_from os (behind o n))
+one_more : (o : Occurrence) (os : Occurrences) (n : Names)
+    → found_from (o ∷ os) n ≡ found_before n o ++ (found_behind (behind o n) o ++ found_from os (behind o n))
 unfolding found_from
 one_more o os n = refl
 

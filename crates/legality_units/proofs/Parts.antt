@@ -20,7 +20,8 @@ no_parts : (n : Names) → unit_in_parts n [] ≡ None
 unfolding unit_in_parts
 no_parts n = refl
 
-one_more : (n : Names) (i : Identifier) (rest : List Identifier) → unit_in_parts n (i ∷ rest) ≡ option_or (unit_in_parts n rest) (unit_if n (denoted_at n i.place))
+one_more : (n : Names) (i : Identifier) (rest : List Identifier)
+    → unit_in_parts n (i ∷ rest) ≡ option_or (unit_in_parts n rest) (unit_if n (denoted_at n i.place))
 unfolding unit_in_parts
 one_more n i rest = refl
 

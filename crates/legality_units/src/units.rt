@@ -1,4 +1,5 @@
-//! Units that may be used (ISO/IEC 8652:2012, 10.1.2, 10.1.6): under a with clause for them, or for one that stands in them.
+//! Units that may be used (ISO/IEC 8652:2012, 10.1.2, 10.1.6): under a with clause for them, or for
+//! one that stands in them.
 ghost use Rattle.std.specs.Prelude.{◌≡◌};
 ghost use Rattle.std.specs.List.{list_any};
 ghost use Rattle.ada_regions.specs.declared.entities.Denoted.TheVariants as denotes;

@@ -112,7 +112,8 @@ fn found_from<'t>(
     found_along(alloc, found, names, occurrences.as_slice())
 }
 
-/// What the names of a source break on the way through them: units that no with clause makes usable, and long names.
+/// What the names of a source break on the way through them: units that no with clause makes
+/// usable, and long names.
 pub fn units_used(
     alloc: Global,
     found: &mut List<Finding>,

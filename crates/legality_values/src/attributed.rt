@@ -2,7 +2,10 @@
 ghost use Rattle.std.specs.Prelude.{◌≡◌, ◌++◌, OnOk};
 ghost use Rattle.ada_regions.specs.Completions.{holds_of};
 ghost use Rattle.ada_legality.specs.Values.{denoted_kind, is_denoted};
-ghost use Rattle.ada_legality.specs.ReadExpressions.{attribute_read, is_unclear_mark, denotes_subprogram, is_unclear, may_have_attribute, no_handler_access, attribute_alone, other_attribute};
+ghost use Rattle.ada_legality.specs.ReadExpressions.{attribute_read, is_unclear_mark};
+ghost use Rattle.ada_legality.specs.ReadExpressions.{denotes_subprogram, is_unclear};
+ghost use Rattle.ada_legality.specs.ReadExpressions.{may_have_attribute, no_handler_access};
+ghost use Rattle.ada_legality.specs.ReadExpressions.{attribute_alone, other_attribute};
 
 use crate::values::{is_unclear_object, place_of};
 use ada_entities::denoted_by;

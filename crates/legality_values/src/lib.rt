@@ -1,6 +1,6 @@
-//! What names are as values, their attributes, and what both break beside their actuals; barriers among them (ISO/IEC
-//! 8652:2012, 4.1, 4.1.4, 4.4, 9.5.2). Each function has the name of the definition of `ada_legality` of which it is the
-//! counterpart.
+//! What names are as values, their attributes, and what both break beside their actuals; barriers
+//! among them (ISO/IEC 8652:2012, 4.1, 4.1.4, 4.4, 9.5.2). Each function has the name of the
+//! definition of `ada_legality` of which it is the counterpart.
 #![tactic(auto)]
 
 mod attributed;

@@ -2,9 +2,12 @@
 ghost use Rattle.std.specs.Prelude.{◌≡◌, ◌++◌, OnOk};
 ghost use Rattle.ada_regions.specs.Completions.{holds_of};
 ghost use Rattle.ada_regions.specs.Words.{and_then};
-ghost use Rattle.ada_legality.specs.Values.{denoted_kind, is_object_kind, is_function_kind, is_kind, kind_of_name, is_denoted};
+ghost use Rattle.ada_legality.specs.Values.{denoted_kind, is_object_kind, is_function_kind};
+ghost use Rattle.ada_legality.specs.Values.{is_kind, kind_of_name, is_denoted};
 ghost use Rattle.ada_legality.specs.Reading.{denotes_barrier_part};
-ghost use Rattle.ada_legality.specs.ReadExpressions.{is_declared_object, component_owner, name_shape, name_read, index_fitted, is_unclear_object, index_fits, may_be_value};
+ghost use Rattle.ada_legality.specs.ReadExpressions.{is_declared_object, component_owner};
+ghost use Rattle.ada_legality.specs.ReadExpressions.{name_shape, name_read, index_fitted};
+ghost use Rattle.ada_legality.specs.ReadExpressions.{is_unclear_object, index_fits, may_be_value};
 
 use crate::barriers::denotes_barrier_part;
 use ada_entities::denoted_by;

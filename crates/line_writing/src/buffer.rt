@@ -9,7 +9,8 @@ use std::marker::Model;
 /// The bytes that a buffer has room for.
 pub const BUFFER_BYTES: usize = 65_536;
 
-/// A buffer of 65,536 bytes, which takes its memory when it is made. Contracts see the list of its bytes.
+/// A buffer of 65,536 bytes, which takes its memory when it is made. Contracts see the list of its
+/// bytes.
 #[derive(Drop)]
 pub struct LineBuffer {
     bytes: Vec<u8>,

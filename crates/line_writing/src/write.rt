@@ -1,8 +1,13 @@
 //! How a line is written.
-ghost use Rattle.std.specs.Prelude.{◌≡◌, ◌+◌, ◌≤◌, ◌∷◌, [], ◌++◌, length, decimal, ◌<◌, ◌^◌, FitsSigned};
+ghost use Rattle.std.specs.Prelude.{◌≡◌, ◌+◌, ◌≤◌, ◌∷◌, [], ◌++◌, length};
+ghost use Rattle.std.specs.Prelude.{decimal, ◌<◌, ◌^◌, FitsSigned};
 ghost use Rattle.std.specs.Int.{w32, w64};
 ghost use Rattle.std.specs.Fmt.{signed_decimal};
-ghost use Rattle.trace_text.specs.Text.{task_text, object_text, who_text, created_text, mode_text, entry_text, finished_text, ended_words, deadline_words, words_of, spaced, line_text, IsPrintable, IsWithin, IsWhoWithin, IsCreatedWithin, IsEntryWithin, IsFinishedWithin, IsEndedWithin, IsDeadlineWithin};
+ghost use Rattle.trace_text.specs.Text.{task_text, object_text, who_text, created_text};
+ghost use Rattle.trace_text.specs.Text.{mode_text, entry_text, finished_text, ended_words};
+ghost use Rattle.trace_text.specs.Text.{deadline_words, words_of, spaced, line_text, IsPrintable};
+ghost use Rattle.trace_text.specs.Text.{IsWithin, IsWhoWithin, IsCreatedWithin, IsEntryWithin};
+ghost use Rattle.trace_text.specs.Text.{IsFinishedWithin, IsEndedWithin, IsDeadlineWithin};
 ghost use Rattle.ann_base.specs.declared.names.TheConstants.{NAME_BYTES};
 ghost use Rattle.line_writing.specs.declared.buffer.TheConstants.{BUFFER_BYTES};
 ghost use Rattle.trace_text.specs.declared.lines.TheConstants.{LINE_BYTES};
@@ -16,11 +21,12 @@ use trace_text::{
     queue_end_bytes, waits_bytes,
 };
 
-// The most bytes that its words have, each behind a space: a line without its tick and its line feed.
+// The most bytes that its words have, each behind a space: a line without its tick and its line
+// feed.
 const WORDS_BYTES: usize = 1_079;
 
-/// Appends the line of a printable event at a tick: the tick, the words with single spaces between, a line feed.
-/// A line has at most LINE_BYTES bytes, and so many must be free.
+/// Appends the line of a printable event at a tick: the tick, the words with single spaces between,
+/// a line feed. A line has at most LINE_BYTES bytes, and so many must be free.
 pub fn write_line(now: u64, event: &Event, buffer: &mut LineBuffer)
     requires room { length buffer.old + LINE_BYTES ≤ BUFFER_BYTES }
     requires printable { IsPrintable event.now }

@@ -15,7 +15,8 @@ pub record Moves (left behind : List ℕ) (asked : ℕ) (got : List ℕ) (count 
 abbrev pub HasMoved : Option (List ℕ) → Option (List ℕ) → ℕ → List ℕ → ℕ → Type 0
 HasMoved left behind asked got count = IfSome left (λ before. (later : List ℕ) × (behind ≡ Some later) × Moves before later asked got count)
 
-moved_in : (file : Option (List ℕ)) (offset asked : ℕ) (got : List ℕ) (count : ℕ) → HasReadFile file offset asked got count → HasMoved (left_in file offset) (left_in file (offset + count)) asked got count
+moved_in : (file : Option (List ℕ)) (offset asked : ℕ) (got : List ℕ) (count : ℕ) → HasReadFile file offset asked got count
+    → HasMoved (left_in file offset) (left_in file (offset + count)) asked got count
 moved_in None offset asked got count read = tt
 moved_in (Some file) offset asked got count read = (
   drop (offset + count) file,
@@ -27,7 +28,8 @@ moved_in (Some file) offset asked got count read = (
   },
 )
 
-pub moved : (files : Option (List ℕ → Option (List ℕ))) (at behind : Option (List ℕ × ℕ)) (asked : ℕ) (got : List ℕ) (count : ℕ) → HasRead files at behind asked got count → HasMoved (left_of files at) (left_of files behind) asked got count
+pub moved : (files : Option (List ℕ → Option (List ℕ))) (at behind : Option (List ℕ × ℕ)) (asked : ℕ) (got : List ℕ) (count : ℕ)
+    → HasRead files at behind asked got count → HasMoved (left_of files at) (left_of files behind) asked got count
 moved None at behind asked got count read = tt
 moved (Some files) None behind asked got count read = tt
 moved (Some files) (Some at) behind asked got count read =
@@ -39,7 +41,8 @@ moved (Some files) (Some at) behind asked got count read =
 abbrev pub HasReadSoFar : Option (List ℕ) → Option (List ℕ) → List ℕ → Type 0
 HasReadSoFar first at bytes = IfSome first (λ left. (rest : List ℕ) × (left ≡ bytes ++ rest) × (at ≡ Some rest))
 
-pub read_more : (first at behind : Option (List ℕ)) (bytes got : List ℕ) (asked count : ℕ) → HasReadSoFar first at bytes → HasMoved at behind asked got count → HasReadSoFar first behind (bytes ++ got)
+pub read_more : (first at behind : Option (List ℕ)) (bytes got : List ℕ) (asked count : ℕ) → HasReadSoFar first at bytes → HasMoved at behind asked got count
+    → HasReadSoFar first behind (bytes ++ got)
 read_more None at behind bytes got asked count so_far piece = tt
 read_more (Some left) at behind bytes got asked count so_far piece =
     let known = subst (λ a. HasMoved a behind asked got count) so_far.2 piece in

@@ -1,5 +1,6 @@
 -- What is handed on byte by byte, and when a line is whole.
-use Rattle.std.proofs.Common.{◌≡◌, ◌<◌, ◌≤◌, ◌+◌, ℕ, suc, Bool, true, false, not, ◌==◌, if◌then◌else◌, List, [], ◌∷◌, ◌++◌, Option, Some, None, IfSome, length, take, drop, get_or, refl, sym, ap, subst, ◌∙◌, append_assoc, length-append, append-nil, add-one, drop-cons, arith}
+use Rattle.std.proofs.Common.{◌≡◌, ◌<◌, ◌≤◌, ◌+◌, ℕ, suc, Bool, true, false, not, ◌==◌, if◌then◌else◌, List, [], ◌∷◌, ◌++◌, Option, Some, None, IfSome}
+use Rattle.std.proofs.Common.{length, take, drop, get_or, refl, sym, ap, subst, ◌∙◌, append_assoc, length-append, append-nil, add-one, drop-cons, arith}
 use Rattle.std.proofs.lemmas.Bool.{ne_eqb}
 use Rattle.std.proofs.lemmas.List.{take_all}
 use Rattle.std.proofs.Math.Seq.{take-append_seam, drop-append_seam}
@@ -16,10 +17,12 @@ same_bytes a b h = ap or_none h
 
 -- the next byte of the piece
 popped : (piece : List ℕ) (next byte : ℕ) → next < length piece → byte ≡ get_or piece next byte → drop next piece ≡ byte ∷ drop (next + 1) piece
-popped piece next byte inside is = drop-cons piece next byte inside ∙ ap (λ b. b ∷ drop (suc next) piece) (sym is) ∙ ap (λ n. byte ∷ drop n piece) (sym (add-one next))
+popped piece next byte inside is =
+    drop-cons piece next byte inside ∙ ap (λ b. b ∷ drop (suc next) piece) (sym is) ∙ ap (λ n. byte ∷ drop n piece) (sym (add-one next))
 
 -- one more byte is handed on
-pub handed_one : (before left : Option (List ℕ)) (line piece : List ℕ) (next room byte : ℕ) → next < length piece → byte ≡ get_or piece next byte → HasHandedOn before (come next piece room left) line → HasHandedOn before (come (next + 1) piece room left) (line ++ byte ∷ [])
+pub handed_one : (before left : Option (List ℕ)) (line piece : List ℕ) (next room byte : ℕ) → next < length piece → byte ≡ get_or piece next byte
+    → HasHandedOn before (come next piece room left) line → HasHandedOn before (come (next + 1) piece room left) (line ++ byte ∷ [])
 handed_one None left line piece next room byte inside is h = tt
 handed_one (Some bytes) None line piece next room byte inside is h = let no : None ≡ Some h.0 = h.2 in cc
 handed_one (Some bytes) (Some l) line piece next room byte inside is h = (
@@ -33,7 +36,8 @@ short_line : (line whole : List ℕ) (most : ℕ) → whole ≡ line → length 
 short_line line whole most is short = sym (ap (take most) is ∙ take_all most line short)
 
 -- a line feed ends the line
-pub ended_line : (before after : Option (List ℕ)) (line : List ℕ) (byte most : ℕ) → has_feed line ≡ false → length line < most → (byte == 10) ≡ true → HasHandedOn before after (line ++ byte ∷ []) → HandsOn most before after (line ++ byte ∷ []) true
+pub ended_line : (before after : Option (List ℕ)) (line : List ℕ) (byte most : ℕ) → has_feed line ≡ false → length line < most → (byte == 10) ≡ true
+    → HasHandedOn before after (line ++ byte ∷ []) → HandsOn most before after (line ++ byte ∷ []) true
 ended_line None after line byte most none short feed h = tt
 ended_line (Some bytes) after line byte most none short feed h =
     let whole : bytes ≡ line ++ (byte ∷ h.0) = h.1 ∙ append_assoc line (byte ∷ []) h.0 in (
@@ -45,7 +49,8 @@ ended_line (Some bytes) after line byte most none short feed h =
     )
 
 -- as many bytes as are wanted, with no line feed among them
-pub cut_line : (before after : Option (List ℕ)) (line : List ℕ) (byte most : ℕ) → has_feed line ≡ false → (byte == 10) ≡ false → length (line ++ byte ∷ []) ≡ most → HasHandedOn before after (line ++ byte ∷ []) → HandsOn most before after (line ++ byte ∷ []) true
+pub cut_line : (before after : Option (List ℕ)) (line : List ℕ) (byte most : ℕ) → has_feed line ≡ false → (byte == 10) ≡ false
+    → length (line ++ byte ∷ []) ≡ most → HasHandedOn before after (line ++ byte ∷ []) → HandsOn most before after (line ++ byte ∷ []) true
 cut_line None after line byte most none other full h = tt
 cut_line (Some bytes) after line byte most none other full h =
     let whole : bytes ≡ line ++ (byte ∷ h.0) = h.1 ∙ append_assoc line (byte ∷ []) h.0 in
@@ -57,7 +62,9 @@ cut_line (Some bytes) after line byte most none other full h =
     )
 
 -- nothing is left behind the last line
-pub last_line : (before between after : Option (List ℕ)) (line : List ℕ) (some : Bool) (most : ℕ) → has_feed line ≡ false → length line < most → HasHandedOn before between line → IfSome between (λ bytes. bytes ≡ []) → IsStillToCome between after → some ≡ is_some_byte line → HandsOn most before after line some
+pub last_line : (before between after : Option (List ℕ)) (line : List ℕ) (some : Bool) (most : ℕ) → has_feed line ≡ false → length line < most
+    → HasHandedOn before between line → IfSome between (λ bytes. bytes ≡ []) → IsStillToCome between after → some ≡ is_some_byte line
+    → HandsOn most before after line some
 last_line None between after line some most none short h end same is = tt
 last_line (Some bytes) between after line some most none short h end same is =
     let nothing : h.0 ≡ [] = subst (λ o. IfSome o (λ xs. xs ≡ [])) h.2 end in

@@ -1,5 +1,6 @@
 -- Pieces that are written one after another.
-use Rattle.std.proofs.Common.{◌≡◌, ℕ, List, [], ◌++◌, Option, Some, None, Result, Ok, Err, OnOk, OnErr, refl, sym, ap, subst, ◌∙◌, append_assoc, append-nil, take, drop}
+use Rattle.std.proofs.Common.{◌≡◌, ℕ, List, [], ◌++◌, Option, Some, None, Result, Ok, Err, OnOk}
+use Rattle.std.proofs.Common.{OnErr, refl, sym, ap, subst, ◌∙◌, append_assoc, append-nil, take, drop}
 use Rattle.std.proofs.lemmas.List.{take-append-drop}
 use Rattle.ann_base.specs.Outside.{extended}
 use Rattle.outside_bytes.specs.Pieces.{HoldsPrefix}
@@ -13,11 +14,13 @@ extended-nil None = refl
 extended-nil (Some held) = ap Some (append-nil held)
 
 -- one more piece is written
-pub one_more_piece : (first before behind : Option (List ℕ)) (piece prefix rest left : List ℕ) (count : ℕ) → piece ≡ prefix ++ rest → before ≡ extended first prefix → behind ≡ extended before (take count rest) → left ≡ drop count rest →
+pub one_more_piece : (first before behind : Option (List ℕ)) (piece prefix rest left : List ℕ) (count : ℕ) → piece ≡ prefix ++ rest
+    → before ≡ extended first prefix → behind ≡ extended before (take count rest) → left ≡ drop count rest →
     (written : List ℕ) × (piece ≡ written ++ left) × (behind ≡ extended first written)
 one_more_piece first before behind piece prefix rest left count whole so_far written tail = (
   prefix ++ take count rest,
-  whole ∙ ap (λ xs. prefix ++ xs) (sym (take-append-drop count rest)) ∙ sym (append_assoc prefix (take count rest) (drop count rest)) ∙ ap (λ xs. (prefix ++ take count rest) ++ xs) (sym tail),
+  whole ∙ ap (λ xs. prefix ++ xs) (sym (take-append-drop count rest)) ∙ sym (append_assoc prefix (take count rest) (drop count rest))
+      ∙ ap (λ xs. (prefix ++ take count rest) ++ xs) (sym tail),
   written ∙ ap (λ held. extended held (take count rest)) so_far ∙ extended-append first prefix (take count rest),
 )
 
@@ -45,11 +48,13 @@ pub err-first : {X E : Type 0} (r : Result X E) (old new : Option (List ℕ)) (a
 err-first (Ok x) old new a b h = tt
 err-first (Err e) old new a b h = prefix-first old new a b h
 
-pub err-second : {X E : Type 0} (r : Result X E) (old between new : Option (List ℕ)) (a b : List ℕ) → between ≡ extended old a → OnErr r (HoldsPrefix between new b) → OnErr r (HoldsPrefix old new (a ++ b))
+pub err-second : {X E : Type 0} (r : Result X E) (old between new : Option (List ℕ)) (a b : List ℕ) → between ≡ extended old a
+    → OnErr r (HoldsPrefix between new b) → OnErr r (HoldsPrefix old new (a ++ b))
 err-second (Ok x) old between new a b whole h = tt
 err-second (Err e) old between new a b whole h = prefix-second old between new a b whole h
 
-pub ok-second : {X E : Type 0} (r : Result X E) (old between new : Option (List ℕ)) (a b : List ℕ) → between ≡ extended old a → OnOk r (new ≡ extended between b) → OnOk r (new ≡ extended old (a ++ b))
+pub ok-second : {X E : Type 0} (r : Result X E) (old between new : Option (List ℕ)) (a b : List ℕ) → between ≡ extended old a
+    → OnOk r (new ≡ extended between b) → OnOk r (new ≡ extended old (a ++ b))
 ok-second (Ok x) old between new a b whole h = h ∙ ap (λ held. extended held b) whole ∙ extended-append old a b
 ok-second (Err e) old between new a b whole h = tt
 
@@ -63,7 +68,8 @@ abbrev pub Written : Option (List ℕ) → Option (List ℕ) → List ℕ → Li
 Written first held whole to_come = (prefix : List ℕ) × (whole ≡ prefix ++ to_come) × (held ≡ extended first prefix)
 
 -- one more line is written
-pub one_more_line : (first before behind : Option (List ℕ)) (line to_come later whole : List ℕ) → Written first before whole to_come → line ++ later ≡ to_come → behind ≡ extended before line → Written first behind whole later
+pub one_more_line : (first before behind : Option (List ℕ)) (line to_come later whole : List ℕ) → Written first before whole to_come → line ++ later ≡ to_come
+    → behind ≡ extended before line → Written first behind whole later
 one_more_line first before behind line to_come later whole so_far told written = (
   so_far.0 ++ line,
   so_far.1 ∙ ap (λ xs. so_far.0 ++ xs) (sym told) ∙ sym (append_assoc so_far.0 line later),
@@ -71,7 +77,8 @@ one_more_line first before behind line to_come later whole so_far told written =
 )
 
 -- a line is written in part
-pub cut_line : {X E : Type 0} (r : Result X E) (first before behind : Option (List ℕ)) (line to_come later whole : List ℕ) → Written first before whole to_come → line ++ later ≡ to_come → HoldsPrefix before behind line → OnErr r (HoldsPrefix first behind whole)
+pub cut_line : {X E : Type 0} (r : Result X E) (first before behind : Option (List ℕ)) (line to_come later whole : List ℕ) → Written first before whole to_come
+    → line ++ later ≡ to_come → HoldsPrefix before behind line → OnErr r (HoldsPrefix first behind whole)
 cut_line (Ok x) first before behind line to_come later whole so_far told part = tt
 cut_line (Err e) first before behind line to_come later whole so_far told part =
     subst (λ xs. HoldsPrefix first behind xs) (sym (so_far.1 ∙ ap (λ xs. so_far.0 ++ xs) (sym told)))

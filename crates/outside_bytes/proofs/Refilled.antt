@@ -1,5 +1,6 @@
 -- A piece that is read in place of one that is used up.
-use Rattle.std.proofs.Common.{◌≡◌, ◌<◌, ◌≤◌, ◌-◌, ◌⊎◌, inl, inr, ℕ, zero, suc, min, List, [], ◌++◌, Option, Some, None, IfSome, length, take, drop, refl, sym, ap, ◌∙◌, append-nil, arith, drop_of_length-le}
+use Rattle.std.proofs.Common.{◌≡◌, ◌<◌, ◌≤◌, ◌-◌, ◌⊎◌, inl, inr, ℕ, zero, suc, min, List, [], ◌++◌, Option, Some, None}
+use Rattle.std.proofs.Common.{IfSome, length, take, drop, refl, sym, ap, ◌∙◌, append-nil, arith, drop_of_length-le}
 use Rattle.std.proofs.lemmas.Bool.{cases_lt}
 use Rattle.std.proofs.lemmas.List.{take-take}
 use Rattle.std.proofs.Math.Seq.{take-add}
@@ -20,7 +21,8 @@ front : (got left : List ℕ) (read count : ℕ) → take read got ≡ take read
 front got left read count same few = sym (take-take count read got few) ∙ ap (take count) same ∙ take-take count read left few
 
 -- what is kept and what may still be read is what might be read before
-kept : (got left : List ℕ) (room read count : ℕ) → take read got ≡ take read left → IsKept room read count → take count got ++ take (room - count) (drop read left) ≡ take room left
+kept : (got left : List ℕ) (room read count : ℕ) → take read got ≡ take read left → IsKept room read count
+    → take count got ++ take (room - count) (drop read left) ≡ take room left
 kept got left room read count same (inl full) =
     let none : room - room ≡ 0 = omega arith in
     ap (λ xs. xs ++ take (room - count) (drop read left)) (front got left read count same (omega (arith, full.0, full.1)))
@@ -34,7 +36,8 @@ kept got left room read count same (inr all) =
     ∙ ap (λ n. take n left) (omega (arith, all.0, all.1))
 
 -- what is to come is the same
-pub same_to_come : (left behind : Option (List ℕ)) (got piece : List ℕ) (asked next room read count : ℕ) → HasMoved left behind asked (take read got) read → length piece ≤ next → IsKept room read count →
+pub same_to_come : (left behind : Option (List ℕ)) (got piece : List ℕ) (asked next room read count : ℕ) → HasMoved left behind asked (take read got) read
+    → length piece ≤ next → IsKept room read count →
     IfSome (come next piece room left) (λ bytes. come 0 (take count got) (room - count) behind ≡ Some bytes)
 same_to_come None behind got piece asked next room read count moved used is = tt
 same_to_come (Some l) behind got piece asked next room read count moved used is =
@@ -52,7 +55,8 @@ nothing_by l asked room read count end some (inl full) none = let no_room : room
 nothing_by l asked room read count end some (inr all) none = ap (take room) (end some (sym all.1 ∙ none)) ∙ take_nil room
 
 -- where nothing is kept nothing is to come
-pub nothing_to_come : (left behind : Option (List ℕ)) (got piece : List ℕ) (asked next room read count : ℕ) → HasMoved left behind asked (take read got) read → 0 < asked → length piece ≤ next → IsKept room read count → count ≡ 0 →
+pub nothing_to_come : (left behind : Option (List ℕ)) (got piece : List ℕ) (asked next room read count : ℕ) → HasMoved left behind asked (take read got) read
+    → 0 < asked → length piece ≤ next → IsKept room read count → count ≡ 0 →
     IfSome (come next piece room left) (λ bytes. bytes ≡ [])
 nothing_to_come None behind got piece asked next room read count moved some used is none = tt
 nothing_to_come (Some l) behind got piece asked next room read count moved some used is none =

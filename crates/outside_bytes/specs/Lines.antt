@@ -1,5 +1,6 @@
 -- What a reader of lines has handed on of a file, and what is still to come.
-use Rattle.std.specs.Prelude.{◌≡◌, ◌≤◌, ◌+◌, ◌<◌, ℕ, Bool, true, false, List, [], ◌++◌, Option, Some, None, drop, take, length, IfSome}
+use Rattle.std.specs.Prelude.{◌≡◌, ◌≤◌, ◌+◌, ◌<◌, ℕ, Bool, true, false, List, []}
+use Rattle.std.specs.Prelude.{◌++◌, Option, Some, None, drop, take, length, IfSome}
 use Rattle.outside_bytes.specs.declared.lines.Lines.{Lines}
 use Rattle.outside_bytes.specs.Bytes.{first_line, is_some_byte}
 

@@ -1,8 +1,8 @@
-//! Whole files, their lines, and whole pieces: reading a file of a shelf up to a limit, or line by line in memory that grows
-//! with the longest line alone, and writing all of a piece to a sink.
+//! Whole files, their lines, and whole pieces: reading a file of a shelf up to a limit, or line by
+//! line in memory that grows with the longest line alone, and writing all of a piece to a sink.
 //!
-//! A shelf reads and a sink writes as many bytes at a time as it likes. The calls here go on until everything is
-//! read or written, or the outside fails.
+//! A shelf reads and a sink writes as many bytes at a time as it likes. The calls here go on until
+//! everything is read or written, or the outside fails.
 #![tactic(auto)]
 
 mod lines;

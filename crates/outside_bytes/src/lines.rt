@@ -1,5 +1,6 @@
 //! Reading a file line by line.
-ghost use Rattle.std.specs.Prelude.{◌≡◌, ◌≤◌, ◌<◌, ◌+◌, ◌-◌, Some, true, take, length, IfOk, IfErr, OnOk};
+ghost use Rattle.std.specs.Prelude.{◌≡◌, ◌≤◌, ◌<◌, ◌+◌, ◌-◌, Some, true};
+ghost use Rattle.std.specs.Prelude.{take, length, IfOk, IfErr, OnOk};
 ghost use Rattle.ann_base.specs.Answers.{OfFault};
 ghost use Rattle.ann_base.specs.Outside.{Rose, Lacks};
 ghost use Rattle.outside_bytes.specs.Files.{told, WhereTold, left_of};
@@ -20,8 +21,9 @@ pub struct Lines {
 }
 
 impl Lines {
-    /// The lines of the first `most` bytes of the named file, or of all of them where it has fewer. Where the shelf
-    /// tells its files, this one is among them; it is picked, and stays picked while its lines are handed on.
+    /// The lines of the first `most` bytes of the named file, or of all of them where it has fewer.
+    /// Where the shelf tells its files, this one is among them; it is picked, and stays picked
+    /// while its lines are handed on.
     ///
     /// Errors: `Fault` where the shelf failed, or tells its files and lacks this one.
     pub fn open<S: Shelf>(
@@ -49,12 +51,13 @@ impl Lines {
         }
     }
 
-    /// Puts the next line into `line`, with its line feed, which the last line may lack, or the first `most` bytes of a
-    /// longer one, and answers whether there was one. `line` takes memory for these bytes alone. Where the shelf tells its
-    /// files, they are the first of what is to come, and what is to come then is the rest.
+    /// Puts the next line into `line`, with its line feed, which the last line may lack, or the
+    /// first `most` bytes of a longer one, and answers whether there was one. `line` takes memory
+    /// for these bytes alone. Where the shelf tells its files, they are the first of what is to
+    /// come, and what is to come then is the rest.
     ///
-    /// Errors: `Fault` where the shelf failed. Then `line` has the bytes that were handed on, and the rest is still to
-    /// come.
+    /// Errors: `Fault` where the shelf failed. Then `line` has the bytes that were handed on, and
+    /// the rest is still to come.
     pub fn next<S: Shelf>(
         &mut self,
         shelf: &mut S,

@@ -10,8 +10,9 @@ use std::alloc::Global;
 /// How many bytes one read asks for.
 pub(crate) const PIECE: usize = 4096;
 
-/// The first `most` bytes of the named file, or all of them where it has fewer. It takes memory for these bytes and
-/// for at most one piece more, however long the file is. Where the shelf tells its files, this one is among them.
+/// The first `most` bytes of the named file, or all of them where it has fewer. It takes memory for
+/// these bytes and for at most one piece more, however long the file is. Where the shelf tells its
+/// files, this one is among them.
 ///
 /// Errors: `Fault` where the shelf failed, or tells its files and lacks this one.
 pub fn read_file<S: Shelf>(

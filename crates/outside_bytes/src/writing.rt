@@ -5,7 +5,8 @@ ghost use Rattle.outside_bytes.specs.Pieces.{HoldsPrefix};
 
 use ann_base::{Failed, Sink};
 
-/// Writes all bytes of the piece, in as many calls as it takes. After a failure a prefix of it was written.
+/// Writes all bytes of the piece, in as many calls as it takes. After a failure a prefix of it was
+/// written.
 pub fn write_all<K: Sink>(sink: &mut K, piece: &[u8]) -> Result<(), Failed>
     ensures written { OnOk result (K.held sink.new ≡ extended (K.held sink.old) piece.now) }
     ensures monotone { K.faults sink.old ≤ K.faults sink.new }
@@ -20,7 +21,8 @@ pub fn write_all<K: Sink>(sink: &mut K, piece: &[u8]) -> Result<(), Failed>
     Ok(())
 }
 
-/// Writes two pieces, the second where the first was written whole. After a failure a prefix of both was written.
+/// Writes two pieces, the second where the first was written whole. After a failure a prefix of
+/// both was written.
 pub fn write_two<K: Sink>(sink: &mut K, first: &[u8], second: &[u8]) -> Result<(), Failed>
     ensures written { OnOk result
         (K.held sink.new ≡ extended (K.held sink.old) (first.now ++ second.now)) }

@@ -1,5 +1,6 @@
-//! The host's files and its two output streams: the edge that is trusted. They tell no content, and count
-//! their failures from 0. Each error of the host raises the count, and so does a name that is not UTF-8.
+//! The host's files and its two output streams: the edge that is trusted. They tell no content, and
+//! count their failures from 0. Each error of the host raises the count, and so does a name that is
+//! not UTF-8.
 ghost use Rattle.std.specs.Prelude.{◌≡◌, ◌<◌, ◌+◌, ◌-◌, None, is_some, false};
 
 use ann_base::{Failed, Shelf, Sink};

@@ -1,5 +1,6 @@
 -- A shelf and a sink in memory as contracts see them: which calls fail, how much a call moves.
-use Rattle.std.specs.Prelude.{◌<◌, ◌≤◌, ◌+◌, ◌-◌, ◌^◌, ℕ, nat_eq, Bool, true, false, cond, List, [], ◌++◌, Option, Some, None, Result, Ok, Err, length, take, drop, min, ◌||◌, nat_lt, vec_capacity}
+use Rattle.std.specs.Prelude.{◌<◌, ◌≤◌, ◌+◌, ◌-◌, ◌^◌, ℕ, nat_eq, Bool, true, false, cond, List, [], ◌++◌, Option}
+use Rattle.std.specs.Prelude.{Some, None, Result, Ok, Err, length, take, drop, min, ◌||◌, nat_lt, vec_capacity}
 use Rattle.std.specs.List.{list_any}
 use Rattle.outside_memory.specs.MemoryState.{ShelfState, SinkState}
 use Rattle.outside_memory.specs.Files.{files_of, first_named, file_at, StandsAt, moved}

@@ -1,5 +1,7 @@
-//! A shelf and a sink in memory, whose failures are chosen beforehand: what tests of reading and writing run over.
-ghost use Rattle.std.specs.Prelude.{◌≡◌, ◌≤◌, ◌<◌, ◌+◌, ◌-◌, ◌^◌, [], None, Some, IfOk, OnOk, OnErr, MatchOption, is_some, true, false, take, drop, length};
+//! A shelf and a sink in memory, whose failures are chosen beforehand: what tests of reading and
+//! writing run over.
+ghost use Rattle.std.specs.Prelude.{◌≡◌, ◌≤◌, ◌<◌, ◌+◌, ◌-◌, ◌^◌, [], None, Some, IfOk, OnOk};
+ghost use Rattle.std.specs.Prelude.{OnErr, MatchOption, is_some, true, false, take, drop, length};
 ghost use Rattle.outside_memory.specs.Files.{files_of, first_named, StandsAt, moved};
 ghost use Rattle.ann_base.specs.Outside.{Rose, Lacks, IsPickedAt, HasRead, extended};
 
@@ -7,7 +9,8 @@ use ann_base::{Failed, NoMemory, Shelf, Sink};
 use std::alloc::Global;
 use std::marker::Model;
 
-/// The picked file of a shelf in memory: its place in the list of files, and the offset of its next byte.
+/// The picked file of a shelf in memory: its place in the list of files, and the offset of its next
+/// byte.
 #[derive(Clone, Copy)]
 struct Picked {
     file: usize,
@@ -38,10 +41,12 @@ impl Model for MemShelf {
 }
 
 impl MemShelf {
-    ghost use Rattle.outside_memory.specs.Memory.{after_pick, pick_answer, after_read, read_answer, next_fails, one_more, faults_after};
+    ghost use Rattle.outside_memory.specs.Memory.{after_pick, pick_answer, after_read};
+    ghost use Rattle.outside_memory.specs.Memory.{read_answer, next_fails, one_more, faults_after};
 
-    /// A shelf with these files, names and bytes; of two files of one name the first counts. A read moves at
-    /// most `most` bytes. The calls whose numbers are in `fails` answer `Failed`, the first being 1.
+    /// A shelf with these files, names and bytes; of two files of one name the first counts. A read
+    /// moves at most `most` bytes. The calls whose numbers are in `fails` answer `Failed`, the
+    /// first being 1.
     pub fn new(files: Vec<(Vec<u8>, Vec<u8>)>, most: usize, fails: Vec<u64>) -> MemShelf
         requires { 0 < most }
         ensures files { result.files ≡ files_of files.items }
@@ -77,7 +82,8 @@ impl MemShelf {
 }
 
 impl Shelf for MemShelf {
-    ghost use Rattle.outside_memory.specs.Memory.{after_pick, pick_answer, after_read, read_answer, rest_at, next_fails};
+    ghost use Rattle.outside_memory.specs.Memory.{after_pick, pick_answer, after_read};
+    ghost use Rattle.outside_memory.specs.Memory.{read_answer, rest_at, next_fails};
 
     ghost files = { λ s. Some (first_named s.files) };
 
@@ -153,8 +159,8 @@ impl Shelf for MemShelf {
     }
 }
 
-/// Bytes that are written to memory. Calls are counted from 1; those that are listed as failing answer
-/// `Failed`, and so does a write that no longer fits.
+/// Bytes that are written to memory. Calls are counted from 1; those that are listed as failing
+/// answer `Failed`, and so does a write that no longer fits.
 #[derive(Drop)]
 pub struct MemSink {
     held: Vec<u8>,
@@ -177,8 +183,8 @@ impl Model for MemSink {
     ghost invariant = { IsSink };
 }
 
-/// Copies bytes from the offset on to the front of the piece, and answers how many: as many as fit, and at
-/// most so many.
+/// Copies bytes from the offset on to the front of the piece, and answers how many: as many as fit,
+/// and at most so many.
 fn copy_front(bytes: &[u8], offset: usize, most: usize, piece: &mut [u8]) -> usize
     requires { offset ≤ length bytes.now }
     ensures count { result ≡ moved most (length piece.old) (length (drop offset bytes.now)) }
@@ -207,8 +213,9 @@ fn position_of(files: &[(Vec<u8>, Vec<u8>)], name: &[u8]) -> Option<usize>
 impl MemSink {
     ghost use Rattle.outside_memory.specs.Memory.{next_fails, one_more};
 
-    /// A sink with nothing written, which takes `room` bytes of memory now and holds no more. A write moves at
-    /// most `most` bytes. The calls whose numbers are in `fails` answer `Failed`, the first being 1.
+    /// A sink with nothing written, which takes `room` bytes of memory now and holds no more. A
+    /// write moves at most `most` bytes. The calls whose numbers are in `fails` answer `Failed`,
+    /// the first being 1.
     pub fn new(
         alloc: Global,
         most: usize,

@@ -1,5 +1,6 @@
 -- The items of an image by their numbers. A number that names no item leads to one that does nothing.
-use Rattle.std.specs.Prelude.{ℕ, ◌+◌, leb, Bool, true, false, cond, ◌&&◌, List, [], ◌∷◌, Option, Some, None, slice_index_or, pos, replicate, ◌++◌, take, drop, find}
+use Rattle.std.specs.Prelude.{ℕ, ◌+◌, leb, Bool, true, false, cond, ◌&&◌, List, [], ◌∷◌, Option}
+use Rattle.std.specs.Prelude.{Some, None, slice_index_or, pos, replicate, ◌++◌, take, drop, find}
 use Rattle.std.specs.List.{list_any}
 use Rattle.profile_image.specs.declared.numbers.DeclNo.{DeclNo}
 use Rattle.profile_image.specs.declared.numbers.ExprNo.{ExprNo}
@@ -13,7 +14,8 @@ use Rattle.profile_image.specs.declared.numbers.ControlledNo.{ControlledNo}
 use Rattle.profile_image.specs.declared.numbers.EnumerationNo.{EnumerationNo}
 use Rattle.profile_image.specs.declared.image.Image.{Image}
 use Rattle.profile_image.specs.declared.image.Dispatching.{Dispatching}
-use Rattle.profile_image.specs.declared.image.Dispatching.TheVariants.{FifoWithinPriorities, RoundRobinWithinPriorities, EdfAcrossPriorities}
+use Rattle.profile_image.specs.declared.image.Dispatching.TheVariants.{FifoWithinPriorities}
+use Rattle.profile_image.specs.declared.image.Dispatching.TheVariants.{RoundRobinWithinPriorities, EdfAcrossPriorities}
 use Rattle.profile_image.specs.declared.image.DispatchingRange.{DispatchingRange}
 use Rattle.profile_image.specs.declared.declarations.Declaration.{Declaration}
 use Rattle.profile_image.specs.declared.declarations.DeclarationKind.TheVariants.{Other}

@@ -1,5 +1,6 @@
 -- Small words on numbers, options and lists that the definitions share.
-use Rattle.std.specs.Prelude.{ℕ, zero, suc, max, cond, ℤ, Bool, true, false, not, ◌&&◌, ◌||◌, List, [], ◌∷◌, Option, Some, None, eqb, int_le, filter, find, slice_index_or}
+use Rattle.std.specs.Prelude.{ℕ, zero, suc, max, cond, ℤ, Bool, true, false, not, ◌&&◌, ◌||◌, List}
+use Rattle.std.specs.Prelude.{[], ◌∷◌, Option, Some, None, eqb, int_le, filter, find, slice_index_or}
 use Rattle.std.specs.List.{list_any}
 use Rattle.ann_base.specs.declared.identities.TaskNo.{TaskNo}
 use Rattle.ann_base.specs.declared.identities.CallNo.{CallNo}

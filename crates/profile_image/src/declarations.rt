@@ -45,8 +45,8 @@ pub enum DeclarationKind {
     Other,
 }
 
-/// A declaration. Its cells stand in the cells of its scope from `place` on; those of a component from `place`
-/// on behind the first of its object's components.
+/// A declaration. Its cells stand in the cells of its scope from `place` on; those of a component
+/// from `place` on behind the first of its object's components.
 pub struct Declaration {
     /// The simple name in lower case.
     pub name: Text,
@@ -85,16 +85,18 @@ pub struct Scope {
     pub outer: Option<ScopeNo>,
     /// How many cells it takes.
     pub size: u32,
-    /// Those of its cells that do not begin as `Whole(0)`, by the values that objects have without an initial value;
-    /// the components of protected and controlled objects are among them. The first cell of a task, protected or
-    /// controlled object, an event, a timer or a budget begins as `Whole(0)`.
+    /// Those of its cells that do not begin as `Whole(0)`, by the values that objects have without
+    /// an initial value; the components of protected and controlled objects are among them. The
+    /// first cell of a task, protected or controlled object, an event, a timer or a budget begins
+    /// as `Whole(0)`.
     pub cells: ImageList<CellRun>,
     /// Whether its declarations hold a task or a controlled object.
     pub kept: bool,
-    /// The first action in it. Its actions are, in this order: those of its declarations; in a task's body the end of
-    /// the activation; `Handled`, where its sequence of statements has handlers; the activation of the tasks that its
-    /// declarations made; its statements. In the environment's scope those of the library packages follow one
-    /// another, and the call of the main procedure comes last.
+    /// The first action in it. Its actions are, in this order: those of its declarations; in a
+    /// task's body the end of the activation; `Handled`, where its sequence of statements has
+    /// handlers; the activation of the tasks that its declarations made; its statements. In the
+    /// environment's scope those of the library packages follow one another, and the call of the
+    /// main procedure comes last.
     pub first: Option<StatementNo>,
 }
 
@@ -111,7 +113,8 @@ impl Drop for Scope {
     }
 }
 
-/// A formal parameter of a subprogram or an entry. The n-th stands in cell n of its scope, counted from 0.
+/// A formal parameter of a subprogram or an entry. The n-th stands in cell n of its scope, counted
+/// from 0.
 #[derive(Clone, Copy)]
 pub struct Formal {
     pub constraint: Constraint,
@@ -235,8 +238,8 @@ impl Drop for Entry {
     }
 }
 
-/// A controlled type with the operations that it overrides (7.6). The components of its objects stand behind one
-/// cell of their own.
+/// A controlled type with the operations that it overrides (7.6). The components of its objects
+/// stand behind one cell of their own.
 pub struct ControlledType {
     pub components: ImageList<DeclNo>,
     pub initialize: Option<SubprogramNo>,

@@ -65,8 +65,8 @@ pub enum Expression {
     Known(Value),
     /// The value of a variable, a constant or a component.
     Variable(VariableName),
-    /// The name of a task, protected, controlled, event, timer or budget object, or of such a parameter.
-    /// It is the value of 'Identity of a task object, too (C.7.1).
+    /// The name of a task, protected, controlled, event, timer or budget object, or of such a
+    /// parameter. It is the value of 'Identity of a task object, too (C.7.1).
     Thing(DeclNo),
     Unary {
         operator: UnaryOperator,

@@ -88,7 +88,8 @@ pub struct Image {
     pub controlled_types: ImageList<ControlledType>,
     pub enumerations: ImageList<Enumeration>,
     pub policies: Policies,
-    /// The environment's scope, whose first action is the first of the elaboration of the library packages.
+    /// The environment's scope, whose first action is the first of the elaboration of the library
+    /// packages.
     pub environment: ScopeNo,
     pub main: MainProcedure,
 }

@@ -1,5 +1,6 @@
-//! The image of a program: what the front end makes of a source, and what the machine runs. Names are numbers, and each
-//! list is indexed by the numbers of its kind. The limits of the profile stand here too, and the items of a script.
+//! The image of a program: what the front end makes of a source, and what the machine runs. Names
+//! are numbers, and each list is indexed by the numbers of its kind. The limits of the profile
+//! stand here too, and the items of a script.
 #![tactic(auto)]
 
 mod declarations;

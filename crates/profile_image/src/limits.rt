@@ -7,11 +7,12 @@ pub const INTEGER_FIRST: i32 = i32::MIN;
 /// The last Integer.
 pub const INTEGER_LAST: i32 = i32::MAX;
 
-/// The first moment of Time, and the first value of Duration, in ticks (9.6, D.8; this profile's choice): half of the first
-/// number of 64 bits, so that a sum of two has room.
+/// The first moment of Time, and the first value of Duration, in ticks (9.6, D.8; this profile's
+/// choice): half of the first number of 64 bits, so that a sum of two has room.
 pub const TIME_FIRST: Moment = -4_611_686_018_427_387_904;
 
-/// The last moment of Time, and the last value of Duration, in ticks (9.6, D.8; this profile's choice).
+/// The last moment of Time, and the last value of Duration, in ticks (9.6, D.8; this profile's
+/// choice).
 pub const TIME_LAST: Moment = 4_611_686_018_427_387_903;
 
 /// How many tasks are live at most.

@@ -1,4 +1,5 @@
-//! The numbers by which the items of an image are named: each counts the items of one list of the image from 0.
+//! The numbers by which the items of an image are named: each counts the items of one list of the
+//! image from 0.
 
 /// A declaration.
 #[derive(Clone, Copy)]

@@ -11,10 +11,10 @@ use ann_base::Raised;
 
 /// A statement or another action.
 ///
-/// The statements of a list, and the parts of a statement that holds others, are linked by what comes next. So a
-/// branch, an alternative or a turn names the action with which the task goes on, be it inside the statement or
-/// behind it. Where there is none, what was opened around the statement ends: a scope, a sequence with handlers,
-/// an accept or an abortable part.
+/// The statements of a list, and the parts of a statement that holds others, are linked by what
+/// comes next. So a branch, an alternative or a turn names the action with which the task goes on,
+/// be it inside the statement or behind it. Where there is none, what was opened around the
+/// statement ends: a scope, a sequence with handlers, an accept or an abortable part.
 pub struct Statement {
     pub form: StatementForm,
     /// The number of operator signs and of calls of predefined functions in its expressions.
@@ -109,8 +109,8 @@ pub enum EntryOwner {
     Own,
 }
 
-/// An alternative of a selective accept (9.7.1). An accept or a delay is named by its statement, whose next is
-/// the first statement behind it.
+/// An alternative of a selective accept (9.7.1). An accept or a delay is named by its statement,
+/// whose next is the first statement behind it.
 #[derive(Clone, Copy)]
 pub enum SelectKind {
     Accept(StatementNo),
@@ -175,8 +175,8 @@ pub enum StatementForm {
     Declare(DeclNo),
     /// Initialize of a controlled object, behind its declaration (7.6).
     Initialize(DeclNo),
-    /// The declaration of a task object (9.1). `part` is a number of its own for each library package, the same for
-    /// its spec and its body, and 0 for every other declarative part.
+    /// The declaration of a task object (9.1). `part` is a number of its own for each library
+    /// package, the same for its spec and its body, and 0 for every other declarative part.
     CreateTask {
         object: DeclNo,
         part: u32,
@@ -187,8 +187,9 @@ pub enum StatementForm {
     EndActivation,
     /// The environment task's call of the main procedure (10.2).
     CallMain,
-    /// A sequence with handlers begins (11.2). It is no action: it is opened behind the one before. Its next stands
-    /// behind the whole sequence, and the statements of its handlers lead there; its own statements end it.
+    /// A sequence with handlers begins (11.2). It is no action: it is opened behind the one before.
+    /// Its next stands behind the whole sequence, and the statements of its handlers lead there;
+    /// its own statements end it.
     Handled {
         handlers: ImageList<Handler>,
         first: StatementNo,
@@ -220,8 +221,8 @@ pub enum StatementForm {
         selector: ExprNo,
         alternatives: ImageList<CaseAlternative>,
     },
-    /// A loop without an iteration scheme, at each turn (5.5). `within` is the statement whose construct is the
-    /// innermost that is open around the loop; none directly in a body.
+    /// A loop without an iteration scheme, at each turn (5.5). `within` is the statement whose
+    /// construct is the innermost that is open around the loop; none directly in a body.
     Loop {
         body: StatementNo,
         within: Option<StatementNo>,
@@ -232,8 +233,9 @@ pub enum StatementForm {
         body: StatementNo,
         within: Option<StatementNo>,
     },
-    /// A for loop at its bounds. The cell behind that of the parameter keeps the last value. Its `turn` is a
-    /// `FirstTurn`, and its body leads to a `LaterTurn`; the next of all three stands behind the loop.
+    /// A for loop at its bounds. The cell behind that of the parameter keeps the last value. Its
+    /// `turn` is a `FirstTurn`, and its body leads to a `LaterTurn`; the next of all three stands
+    /// behind the loop.
     For {
         parameter: DeclNo,
         reverse: bool,
@@ -300,8 +302,8 @@ pub enum StatementForm {
         call: StatementNo,
         delay: StatementNo,
     },
-    /// An asynchronous select (9.7.4). The trigger is named by its statement, an entry call or a delay, whose
-    /// next is the first statement behind it.
+    /// An asynchronous select (9.7.4). The trigger is named by its statement, an entry call or a
+    /// delay, whose next is the first statement behind it.
     AsynchronousSelect {
         trigger: StatementNo,
         abortable: StatementNo,

@@ -14,8 +14,8 @@ pub enum Value {
     Ticks(Moment),
     /// A Task_Id (C.7.1), or a task object; without a task it is Null_Task_Id.
     Task(Option<TaskNo>),
-    /// The number of a protected object, controlled object, timing event, timer or group budget; 0 for a
-    /// controlled object that has not been registered.
+    /// The number of a protected object, controlled object, timing event, timer or group budget; 0
+    /// for a controlled object that has not been registered.
     Thing(u32),
 }
 
@@ -34,7 +34,8 @@ pub enum Constraint {
     Ticks { low: Moment, high: Moment },
 }
 
-/// Cells of a scope that do not begin as `Whole(0)`: `count` of them from `place` on begin with `value`.
+/// Cells of a scope that do not begin as `Whole(0)`: `count` of them from `place` on begin with
+/// `value`.
 #[derive(Clone, Copy)]
 pub struct CellRun {
     pub place: u32,

@@ -1,5 +1,6 @@
 -- The jobs, the preemptions and the last placing of a task with one line more.
-use Rattle.std.proofs.Common.{◌≡◌, ℕ, ◌+◌, max, Bool, true, false, if◌then◌else◌, ◌==◌, List, [], ◌∷◌, ◌++◌, Option, Some, None, is_some, length, refl, ap, sym, ◌∙◌, append_assoc, append-nil, arith}
+use Rattle.std.proofs.Common.{◌≡◌, ℕ, ◌+◌, max, Bool, true, false, if◌then◌else◌, ◌==◌, List, [], ◌∷◌, ◌++◌, Option}
+use Rattle.std.proofs.Common.{Some, None, is_some, length, refl, ap, sym, ◌∙◌, append_assoc, append-nil, arith}
 use Rattle.std.specs.Prelude.{unwrap_or}
 use Rattle.std.specs.Option.{option_to_list}
 use Rattle.ann_base.specs.declared.identities.TaskNo.{TaskNo}
@@ -21,25 +22,34 @@ use Rattle.run_report.proofs.Moves.{after_move}
 
 abbrev pub since_from : TaskNo → List Entry → Option ℕ → List TraceLine → Option ℕ
 since_from task queue since [] = since
-since_from task queue since (line ∷ lines) = since_from task (queue_after queue line.1) (since_by (is_in task queue) (is_in task (queue_after queue line.1)) line.0 since) lines
+since_from task queue since (line ∷ lines) =
+    since_from task (queue_after queue line.1) (since_by (is_in task queue) (is_in task (queue_after queue line.1)) line.0 since) lines
 
-pub since_from-append : (task : TaskNo) (seen : Seen) (since : Option ℕ) (lines : List TraceLine) (line : TraceLine) → since_from task seen.queue since (lines ++ line ∷ []) ≡
-    since_by (is_in task (seen_after seen lines).queue) (is_in task (queue_after (seen_after seen lines).queue line.1)) line.0 (since_from task seen.queue since lines)
+pub since_from-append : (task : TaskNo) (seen : Seen) (since : Option ℕ) (lines : List TraceLine) (line : TraceLine)
+    → since_from task seen.queue since (lines ++ line ∷ []) ≡
+    since_by (is_in task (seen_after seen lines).queue) (is_in task (queue_after (seen_after seen lines).queue line.1)) line.0
+    (since_from task seen.queue since lines)
 since_from-append task seen since [] line = refl
-since_from-append task seen since (first ∷ lines) line = since_from-append task (see_line seen first) (since_by (is_in task seen.queue) (is_in task (queue_after seen.queue first.1)) first.0 since) lines line
+since_from-append task seen since (first ∷ lines) line =
+    since_from-append task (see_line seen first) (since_by (is_in task seen.queue) (is_in task (queue_after seen.queue first.1)) first.0 since) lines line
 
-pub responses-append : (task : TaskNo) (seen : Seen) (since : Option ℕ) (lines : List TraceLine) (line : TraceLine) → responses_from task seen.queue since (lines ++ line ∷ []) ≡
-    responses_from task seen.queue since lines ++ response_by (is_in task (seen_after seen lines).queue) (is_in task (queue_after (seen_after seen lines).queue line.1)) line.0 (since_from task seen.queue since lines)
+pub responses-append : (task : TaskNo) (seen : Seen) (since : Option ℕ) (lines : List TraceLine) (line : TraceLine)
+    → responses_from task seen.queue since (lines ++ line ∷ []) ≡
+    responses_from task seen.queue since lines
+    ++ response_by (is_in task (seen_after seen lines).queue) (is_in task (queue_after (seen_after seen lines).queue line.1)) line.0
+    (since_from task seen.queue since lines)
 responses-append task seen since [] line = append-nil (response_by (is_in task seen.queue) (is_in task (queue_after seen.queue line.1)) line.0 since)
 responses-append task seen since (first ∷ lines) line =
     let ended = response_by (is_in task seen.queue) (is_in task (queue_after seen.queue first.1)) first.0 since in
     let begun = since_by (is_in task seen.queue) (is_in task (queue_after seen.queue first.1)) first.0 since in
     ap (λ xs. ended ++ xs) (responses-append task (see_line seen first) begun lines line)
     ∙ sym (append_assoc ended (responses_from task (see_line seen first).queue begun lines)
-    (response_by (is_in task (seen_after (see_line seen first) lines).queue) (is_in task (queue_after (seen_after (see_line seen first) lines).queue line.1)) line.0 (since_from task (see_line seen first).queue begun lines)))
+    (response_by (is_in task (seen_after (see_line seen first) lines).queue)
+    (is_in task (queue_after (seen_after (see_line seen first) lines).queue line.1)) line.0 (since_from task (see_line seen first).queue begun lines)))
 
 -- by the move of the line
-pub response_moved : (move : Move) (before : Bool) (tick : ℕ) (since : Option ℕ) → is_some since ≡ before → response_by before (after_move move before) tick since ≡ option_to_list (response_at move tick since)
+pub response_moved : (move : Move) (before : Bool) (tick : ℕ) (since : Option ℕ) → is_some since ≡ before
+    → response_by before (after_move move before) tick since ≡ option_to_list (response_at move tick since)
 response_moved (Enters end) true tick since e = refl
 response_moved (Enters end) false tick since e = refl
 response_moved Leaves true tick None e = refl
@@ -49,7 +59,8 @@ response_moved Leaves false tick (Some begun) e = cc
 response_moved Stays true tick since e = refl
 response_moved Stays false tick since e = refl
 
-pub since_moved : (move : Move) (before : Bool) (tick : ℕ) (since : Option ℕ) → is_some since ≡ before → since_by before (after_move move before) tick since ≡ since_after move tick since
+pub since_moved : (move : Move) (before : Bool) (tick : ℕ) (since : Option ℕ) → is_some since ≡ before
+    → since_by before (after_move move before) tick since ≡ since_after move tick since
 since_moved (Enters end) true tick None e = cc
 since_moved (Enters end) true tick (Some begun) e = refl
 since_moved (Enters end) false tick None e = refl
@@ -60,7 +71,8 @@ since_moved Leaves false tick (Some begun) e = cc
 since_moved Stays true tick since e = refl
 since_moved Stays false tick since e = refl
 
-pub ready_moved : (move : Move) (before : Bool) (tick : ℕ) (since : Option ℕ) → is_some since ≡ before → is_some (since_after move tick since) ≡ after_move move before
+pub ready_moved : (move : Move) (before : Bool) (tick : ℕ) (since : Option ℕ) → is_some since ≡ before
+    → is_some (since_after move tick since) ≡ after_move move before
 ready_moved (Enters end) before tick since e = refl
 ready_moved Leaves before tick since e = refl
 ready_moved Stays before tick since e = e
@@ -103,7 +115,8 @@ tail_moved task tail tick (Block who why) = tail_left (who_eq who (subject.Task 
 tail_moved task tail tick (Done other) = tail_left (other.0 == task.0) tick tail
 tail_moved task tail tick event = refl
 
-pub tail_from-append : (task : TaskNo) (tail : Option ℕ) (lines : List TraceLine) (line : TraceLine) → tail_from task tail (lines ++ line ∷ []) ≡ tail_after task (tail_from task tail lines) line
+pub tail_from-append : (task : TaskNo) (tail : Option ℕ) (lines : List TraceLine) (line : TraceLine)
+    → tail_from task tail (lines ++ line ∷ []) ≡ tail_after task (tail_from task tail lines) line
 tail_from-append task tail [] line = refl
 tail_from-append task tail (first ∷ lines) line = tail_from-append task (tail_after task tail first) lines line
 
@@ -116,9 +129,14 @@ one_if false x = refl
 sum_assoc : (a b c : ℕ) → a + (b + c) ≡ (a + b) + c
 sum_assoc a b c = omega arith
 
-pub preemptions-append : (task : TaskNo) (before lines : List TraceLine) (line : TraceLine) → preemptions_from task before (lines ++ line ∷ []) ≡ preemptions_from task before lines + ticks_if (is_preempted task (before ++ lines) line) 1
-preemptions-append task before [] line = one_if (is_preempted task before line) 0 ∙ ap (λ ls. 0 + ticks_if (is_preempted task ls line) 1) (sym (append-nil before))
+pub preemptions-append : (task : TaskNo) (before lines : List TraceLine) (line : TraceLine)
+    → preemptions_from task before (lines ++ line ∷ []) ≡ preemptions_from task before lines + ticks_if (is_preempted task (before ++ lines) line) 1
+preemptions-append task before [] line =
+    one_if (is_preempted task before line) 0 ∙ ap (λ ls. 0 + ticks_if (is_preempted task ls line) 1) (sym (append-nil before))
 preemptions-append task before (first ∷ lines) line =
     let here : ℕ = if is_preempted task before first then 1 else 0 in
-    let rest = preemptions-append task (before ++ first ∷ []) lines line ∙ ap (λ ls. preemptions_from task (before ++ first ∷ []) lines + ticks_if (is_preempted task ls line) 1) (append_assoc before (first ∷ []) lines) in
-    ap (λ n. here + n) rest ∙ sum_assoc here (preemptions_from task (before ++ first ∷ []) lines) (ticks_if (is_preempted task (before ++ first ∷ lines) line) 1)
+    let rest =
+    preemptions-append task (before ++ first ∷ []) lines line
+    ∙ ap (λ ls. preemptions_from task (before ++ first ∷ []) lines + ticks_if (is_preempted task ls line) 1) (append_assoc before (first ∷ []) lines) in
+    ap (λ n. here + n) rest
+    ∙ sum_assoc here (preemptions_from task (before ++ first ∷ []) lines) (ticks_if (is_preempted task (before ++ first ∷ lines) line) 1)

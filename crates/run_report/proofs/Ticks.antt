@@ -9,17 +9,20 @@ use Rattle.run_report.specs.Kept.{ticks_if, streak_after}
 pub count_same : (n : ℕ) (p q : ℕ → Bool) → ((t : ℕ) → t < n → p t ≡ q t) → count_below n p ≡ count_below n q
 count_same zero p q h = refl
 count_same (suc n) p q h =
-    ap (λ c. c + (if p n then 1 else 0)) (count_same n p q (λ t less. h t (omega (arith, less)))) ∙ ap (λ b. count_below n q + (if b then 1 else 0)) (h n (omega arith))
+    ap (λ c. c + (if p n then 1 else 0)) (count_same n p q (λ t less. h t (omega (arith, less))))
+    ∙ ap (λ b. count_below n q + (if b then 1 else 0)) (h n (omega arith))
 
 pub streak_same : (n : ℕ) (p q : ℕ → Bool) → ((t : ℕ) → t < n → p t ≡ q t) → streak_below n p ≡ streak_below n q
 streak_same zero p q h = refl
 streak_same (suc n) p q h =
-    ap (λ b. if b then streak_below n p + 1 else 0) (h n (omega arith)) ∙ ap (λ s. if q n then s + 1 else 0) (streak_same n p q (λ t less. h t (omega (arith, less))))
+    ap (λ b. if b then streak_below n p + 1 else 0) (h n (omega arith))
+    ∙ ap (λ s. if q n then s + 1 else 0) (streak_same n p q (λ t less. h t (omega (arith, less))))
 
 pub longest_same : (n : ℕ) (p q : ℕ → Bool) → ((t : ℕ) → t < n → p t ≡ q t) → longest_below n p ≡ longest_below n q
 longest_same zero p q h = refl
 longest_same (suc n) p q h =
-    ap (λ l. max l (streak_below (suc n) p)) (longest_same n p q (λ t less. h t (omega (arith, less)))) ∙ ap (λ s. max (longest_below n q) s) (streak_same (suc n) p q h)
+    ap (λ l. max l (streak_below (suc n) p)) (longest_same n p q (λ t less. h t (omega (arith, less))))
+    ∙ ap (λ s. max (longest_below n q) s) (streak_same (suc n) p q h)
 
 -- ---- a test that stays the same over some ticks
 
@@ -71,7 +74,8 @@ grown zero c l s less = omega (arith, less)
 grown (suc k) true l s less = omega (arith, streak_by (suc k) true s (omega arith), streak_by (suc (suc k)) true s (omega arith))
 grown (suc k) false l s less = omega (arith, streak_by (suc k) false s (omega arith))
 
-pub longest_on : (d a n : ℕ) (p : ℕ → Bool) (c : Bool) → n ≡ a + d → ((t : ℕ) → a ≤ t → t < n → p t ≡ c) → longest_below n p ≡ max (longest_below a p) (streak_after d c (streak_below a p))
+pub longest_on : (d a n : ℕ) (p : ℕ → Bool) (c : Bool) → n ≡ a + d → ((t : ℕ) → a ≤ t → t < n → p t ≡ c)
+    → longest_below n p ≡ max (longest_below a p) (streak_after d c (streak_below a p))
 longest_on zero a n p c e h =
     let same : n ≡ a = omega (arith, e) in
     let most : longest_below a p ≡ max (longest_below a p) (streak_below a p) = omega (arith, streak_least a p) in
@@ -82,4 +86,5 @@ longest_on (suc k) a n p c e h =
     ap (λ m. longest_below m p) one
     ∙ ap (λ x. max x (streak_below (suc (a + k)) p)) before
     ∙ ap (λ x. max (max (longest_below a p) (streak_after k c (streak_below a p))) x) (sym (ap (λ m. streak_below m p) one) ∙ streak_on (suc k) a n p c e h)
-    ∙ max_over (longest_below a p) (streak_after k c (streak_below a p)) (streak_after (suc k) c (streak_below a p)) (grown k c (longest_below a p) (streak_below a p) (streak_least a p))
+    ∙ max_over (longest_below a p) (streak_after k c (streak_below a p)) (streak_after (suc k) c (streak_below a p))
+    (grown k c (longest_below a p) (streak_below a p) (streak_least a p))

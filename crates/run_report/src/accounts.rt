@@ -8,7 +8,8 @@ pub struct Account {
     pub task: TaskNo,
     /// Its expanded name.
     pub name: Name,
-    /// How many jobs ended: each from a line by which it enters the ready queue to the next by which it leaves it.
+    /// How many jobs ended: each from a line by which it enters the ready queue to the next by
+    /// which it leaves it.
     pub jobs: u64,
     /// The longest response of a job, 0 where none ended.
     pub worst: u64,
@@ -16,8 +17,8 @@ pub struct Account {
     pub sum: u64,
     /// The ticks in which it ran.
     pub run: u64,
-    /// How often another subject was chosen while it ran and was ready, and was not placed behind all of its level at
-    /// that tick.
+    /// How often another subject was chosen while it ran and was ready, and was not placed behind
+    /// all of its level at that tick.
     pub preempted: u64,
     /// The ticks in which it was ready and a task of lower base priority ran.
     pub lower: u64,

@@ -1,15 +1,17 @@
-//! The clocks of the base priorities: how long a task waited is told by the clock of its base priority, so that a line
-//! costs no pass over the tasks.
+//! The clocks of the base priorities: how long a task waited is told by the clock of its base
+//! priority, so that a line costs no pass over the tasks.
 ghost use Rattle.std.specs.Prelude.{◌≡◌, ◌≤◌, Some, map, OnOk, OnErr};
 ghost use Rattle.std.specs.List.{AllByRecursion, list_all};
 ghost use Rattle.trace_text.specs.declared.lines.TheConstants.{LAST_TICK};
-ghost use Rattle.run_report.specs.Clocks.{clock_of, clock_at, passed, goes_on, level_given, with_clock, waited_by, IsShown};
+ghost use Rattle.run_report.specs.Clocks.{clock_of, clock_at, passed, goes_on};
+ghost use Rattle.run_report.specs.Clocks.{level_given, with_clock, waited_by, IsShown};
 
 use crate::tallies::{Passing, is_lower, streak_after, ticks_if};
 use ann_base::{Level, NoMemory};
 use trace_text::{Created, Event};
 
-/// How long tasks of one base priority waited, if they were ready, while a task of lower base priority ran.
+/// How long tasks of one base priority waited, if they were ready, while a task of lower base
+/// priority ran.
 #[derive(Clone, Copy)]
 pub struct Clock {
     pub level: Level,

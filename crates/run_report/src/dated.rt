@@ -4,7 +4,11 @@ ghost use Rattle.std.specs.List.{AllByRecursion};
 ghost use Rattle.std.specs.Ordering.{nat_cmp};
 ghost use Rattle.std.specs.BTreeMap.{get};
 ghost use Rattle.trace_text.specs.declared.lines.TheConstants.{LAST_TICK};
-ghost use Rattle.run_report.specs.Clocks.{clock_at, wait_level, lower_by, streak_by, tally_at, dated, settled, next_waited, number_in, named_by, created_number, noted, place_in, place_at, place_if, checked_place, step_of, step_at, written, written_at, IsFit, IsWithin, IsShown};
+ghost use Rattle.run_report.specs.Clocks.{clock_at, wait_level, lower_by, streak_by, tally_at};
+ghost use Rattle.run_report.specs.Clocks.{dated, settled, next_waited, number_in, named_by};
+ghost use Rattle.run_report.specs.Clocks.{created_number, noted, place_in, place_at, place_if};
+ghost use Rattle.run_report.specs.Clocks.{checked_place, step_of, step_at, written};
+ghost use Rattle.run_report.specs.Clocks.{written_at, IsFit, IsWithin, IsShown};
 ghost use Rattle.run_report.specs.declared.tallies.TheConstants.{ROOM};
 
 use crate::clocks::{Clock, clock_at, waited_by};
@@ -121,7 +125,8 @@ pub fn number_in(somebody: Option<Who>) -> Option<u32>
     }
 }
 
-/// The number of the task that a line creates, places in the queue, takes out, or gives a base priority.
+/// The number of the task that a line creates, places in the queue, takes out, or gives a base
+/// priority.
 pub fn named_by(event: &Event) -> Option<u32>
     ensures { result ≡ named_by event.now }
 {
@@ -151,8 +156,8 @@ fn created_number(event: &Event) -> Option<u32>
     }
 }
 
-/// Notes the place of the task that a line creates. A place may stay noted of a task that then was not created for want of
-/// memory, so that whoever looks a place up looks at the number there too.
+/// Notes the place of the task that a line creates. A place may stay noted of a task that then was
+/// not created for want of memory, so that whoever looks a place up looks at the number there too.
 pub fn note_place(
     places: &mut BTreeMap<u32, usize>,
     event: &Event,

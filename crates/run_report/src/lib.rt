@@ -1,4 +1,5 @@
-//! What a trace shows of each task, kept line by line: its jobs, its running, its preemptions and its waiting.
+//! What a trace shows of each task, kept line by line: its jobs, its running, its preemptions and
+//! its waiting.
 #![tactic(auto)]
 
 mod accounts;

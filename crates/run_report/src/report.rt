@@ -1,5 +1,6 @@
 //! The report of a list of lines, which is kept line by line.
-ghost use Rattle.std.specs.Prelude.{◌≡◌, ◌↔◌, ℕ, ◌<◌, ◌≤◌, ◌+◌, ◌++◌, true, false, List, None, Some, map, length, vec_len, vec_capacity, OnOk, OnErr};
+ghost use Rattle.std.specs.Prelude.{◌≡◌, ◌↔◌, ℕ, ◌<◌, ◌≤◌, ◌+◌, ◌++◌, true, false, List, None};
+ghost use Rattle.std.specs.Prelude.{Some, map, length, vec_len, vec_capacity, OnOk, OnErr};
 ghost use Rattle.std.specs.List.{AllByRecursion, slice_get};
 ghost use Rattle.std.specs.Ordering.{nat_cmp};
 ghost use Rattle.std.specs.BTreeMap.{get};
@@ -9,8 +10,11 @@ ghost use Rattle.trace_text.specs.Queue.{TraceLine, last_from, somebody_eq};
 ghost use Rattle.trace_text.specs.Laws.{Formed};
 ghost use Rattle.trace_lines.specs.Seen.{with_line, is_formed_after, IsFault};
 ghost use Rattle.run_report.specs.Accounts.{accounts_of, run_of, idle_of, runner_base};
-ghost use Rattle.run_report.specs.Kept.{nothing_reported, report_line, StandsFor, passing_in, account_in, accounts_in};
-ghost use Rattle.run_report.specs.Clocks.{newly_dated, created_number, passed, followed, told, made_quiet, place_in, place_at, step_at, IsEachOnce, IsFit, IsWithin, IsShown, IsKnown, IsSame, IsReady};
+ghost use Rattle.run_report.specs.Kept.{nothing_reported, report_line, StandsFor};
+ghost use Rattle.run_report.specs.Kept.{passing_in, account_in, accounts_in};
+ghost use Rattle.run_report.specs.Clocks.{newly_dated, created_number, passed, followed, told};
+ghost use Rattle.run_report.specs.Clocks.{made_quiet, place_in, place_at, step_at, IsEachOnce};
+ghost use Rattle.run_report.specs.Clocks.{IsFit, IsWithin, IsShown, IsKnown, IsSame, IsReady};
 ghost use Rattle.run_report.specs.declared.tallies.TheConstants.{ROOM};
 
 use crate::accounts::Account;
@@ -38,9 +42,10 @@ pub struct Kept {
     pub tally: Tally,
 }
 
-/// What is kept of a formed list of lines for its report: as many facts as there are tasks and protected objects, and no
-/// lines. Contracts see these facts, which stand for the list. How long a task waited is told by the clocks, so that a line
-/// changes the task that it names and the one that ran, and no other; only where a waiting ends each task is told once.
+/// What is kept of a formed list of lines for its report: as many facts as there are tasks and
+/// protected objects, and no lines. Contracts see these facts, which stand for the list. How long a
+/// task waited is told by the clocks, so that a line changes the task that it names and the one
+/// that ran, and no other; only where a waiting ends each task is told once.
 #[derive(Drop)]
 pub struct Report {
     lines: Lines,
@@ -96,9 +101,9 @@ impl Report {
     ///
     /// # Errors
     ///
-    /// `Malformed` exactly where the list that this stands for is formed and does not stay so with this line. A count that
-    /// might pass its type, after 18,000,000,000 lines at the earliest, is answered as want of memory. An error changes
-    /// nothing.
+    /// `Malformed` exactly where the list that this stands for is formed and does not stay so with
+    /// this line. A count that might pass its type, after 18,000,000,000 lines at the earliest, is
+    /// answered as want of memory. An error changes nothing.
     pub fn line(&mut self, now: u64, event: &Event) -> Result<(), OrMemory<Malformed>>
         ensures malformed { (lines : List TraceLine) → Formed lines → StandsFor self.old lines
             → (IsFault result ↔ (Formed (with_line lines now event.now) → ⊥)) }
@@ -167,7 +172,8 @@ impl Report {
         self.items.len() as u32
     }
 
-    /// The account of the task at this place, in the order of the `new` lines, counted from 0; None exactly past the last.
+    /// The account of the task at this place, in the order of the `new` lines, counted from 0; None
+    /// exactly past the last.
     pub fn account(&self, place: u32) -> Option<Account>
         ensures kept { result ≡ slice_get (accounts_in self.now) place }
         ensures account { (lines : List TraceLine) → Formed lines → StandsFor self.now lines
@@ -293,7 +299,8 @@ fn is_nobody(somebody: Option<Who>) -> bool
     }
 }
 
-// Makes all ready for a line, so that nothing wants memory after it is taken. What is told stays the same.
+// Makes all ready for a line, so that nothing wants memory after it is taken. What is told stays
+// the same.
 fn prepare(
     items: &mut Vec<Dated>,
     clocks: &mut Vec<Clock>,

@@ -4,7 +4,9 @@ ghost use Rattle.trace_text.specs.declared.lines.TheConstants.{LAST_TICK};
 ghost use Rattle.trace_text.specs.declared.events.Who.TheVariants as subject;
 ghost use Rattle.trace_text.specs.Queue.{somebody_eq};
 ghost use Rattle.run_report.specs.Accounts.{is_lower, is_tick, chooses_another};
-ghost use Rattle.run_report.specs.Kept.{fresh, ticks_if, is_waiting, streak_after, move_of, since_after, tail_at, response_at, leaves_if, level_if, is_put_off, base_after, tally_after, has_room};
+ghost use Rattle.run_report.specs.Kept.{fresh, ticks_if, is_waiting, streak_after, move_of};
+ghost use Rattle.run_report.specs.Kept.{since_after, tail_at, response_at, leaves_if, level_if};
+ghost use Rattle.run_report.specs.Kept.{is_put_off, base_after, tally_after, has_room};
 
 use ann_base::{Level, TaskNo};
 use trace_lines::is_same;
@@ -26,11 +28,13 @@ pub struct Tally {
     pub since: Option<u64>,
     /// At which tick it was last placed behind all of its level.
     pub tail: Option<u64>,
-    /// For how many ticks directly before the last line it waited for a task of lower base priority.
+    /// For how many ticks directly before the last line it waited for a task of lower base
+    /// priority.
     pub streak: u64,
 }
 
-/// The ticks that pass between two lines: how many, who runs, and with which base priority, where it is a task.
+/// The ticks that pass between two lines: how many, who runs, and with which base priority, where
+/// it is a task.
 #[derive(Clone, Copy)]
 pub struct Passing {
     pub elapsed: u64,
@@ -46,7 +50,8 @@ pub enum Move {
     Stays,
 }
 
-/// The most that a figure may be for a line more: the ticks of a trace may be added, and no sum passes 64 bits.
+/// The most that a figure may be for a line more: the ticks of a trace may be added, and no sum
+/// passes 64 bits.
 pub const ROOM: u64 = u64::MAX - LAST_TICK;
 
 impl Tally {
@@ -115,7 +120,8 @@ impl Tally {
         self.since.is_some() && is_lower(passing.base, self.base)
     }
 
-    // Whether another subject is chosen, and the task runs, is ready, and was not placed behind all of its level.
+    // Whether another subject is chosen, and the task runs, is ready, and was not placed behind all
+    // of its level.
     fn is_put_off(&self, task: TaskNo, runs: bool, now: u64, event: &Event) -> bool
         ensures { result
             ≡ chooses_another task event.now && runs && is_some self.now.since

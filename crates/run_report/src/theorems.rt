@@ -1,5 +1,5 @@
-//! What the facts say of the list that they stand for, as a call that does nothing: its contract is theorems on the
-//! definitions.
+//! What the facts say of the list that they stand for, as a call that does nothing: its contract is
+//! theorems on the definitions.
 ghost use Rattle.std.specs.Prelude.{◌≡◌, ◌↔◌, ℕ, IsTrue, List};
 ghost use Rattle.trace_text.specs.declared.events.Who.TheVariants as subject;
 ghost use Rattle.trace_text.specs.declared.events.Event.{Event};
@@ -12,8 +12,8 @@ ghost use Rattle.run_report.specs.Kept.{reported_of, report_line, accounts_in};
 use trace_lines::facts_tell;
 use trace_text::tests_tell;
 
-/// What is kept of a formed list are the accounts of its tasks, as the definitions on lists say them, and whether the list
-/// stays formed shows in it.
+/// What is kept of a formed list are the accounts of its tasks, as the definitions on lists say
+/// them, and whether the list stays formed shows in it.
 pub fn accounts_tell()
     ensures accounts { (lines : List TraceLine) → Formed lines
         → accounts_in (reported_of lines) ≡ accounts_of lines }

@@ -29,7 +29,8 @@ pub fn write_account(account: &Account, buffer: &mut LineBuffer)
     buffer.append(b"\n");
 }
 
-/// Appends the last three lines of a report: the ticks of the agent, of nobody, and all. So many bytes must be free.
+/// Appends the last three lines of a report: the ticks of the agent, of nobody, and all. So many
+/// bytes must be free.
 pub fn write_totals(agent_run: u64, idle: u64, ticks: u64, buffer: &mut LineBuffer)
     requires { length buffer.old + REPORT_BYTES ≤ BUFFER_BYTES }
     ensures { buffer.new ≡ buffer.old ++ totals_text agent_run idle ticks }

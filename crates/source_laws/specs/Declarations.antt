@@ -4,7 +4,8 @@ use Rattle.std.specs.Str.{bytes_eq}
 use Rattle.ada_tree.specs.declared.names.Identifier.{Identifier}
 use Rattle.ada_regions.specs.declared.entities.UnitKind.{UnitKind}
 use Rattle.ada_regions.specs.declared.entities.UnitKind.TheVariants as unit
-use Rattle.ada_regions.specs.Occurrences.{Occurrence, the_package, a_subprogram, a_task, a_protected, hides, heads, declares, declares_unit, completes}
+use Rattle.ada_regions.specs.Occurrences.{Occurrence, the_package, a_subprogram, a_task, a_protected}
+use Rattle.ada_regions.specs.Occurrences.{hides, heads, declares, declares_unit, completes}
 use Rattle.source_laws.specs.Positions.{Before, around, around_outside, nearest}
 
 abbrev pub is_named : List ℕ → Identifier → Bool

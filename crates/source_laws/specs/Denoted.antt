@@ -10,7 +10,8 @@ use Rattle.ada_regions.specs.NamesInUnits.{names_in_unit}
 use Rattle.ada_regions.specs.Names.{denoted_at, entity_at}
 use Rattle.ada_regions.specs.Numbered.{names_of, last_priority_of}
 use Rattle.source_laws.specs.Positions.{Before}
-use Rattle.source_laws.specs.DirectNames.{Meaning, is_declared, is_unit, is_item, is_nothing, is_several, meaning_if_seen}
+use Rattle.source_laws.specs.DirectNames.{Meaning, is_declared, is_unit, is_item}
+use Rattle.source_laws.specs.DirectNames.{is_nothing, is_several, meaning_if_seen}
 use Rattle.source_laws.specs.UseClauses.{same_meaning, direct_name_means}
 
 abbrev pub told_meaning : Names → Option Denoted → Meaning

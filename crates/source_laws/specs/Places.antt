@@ -7,7 +7,9 @@ use Rattle.ada_tree.specs.declared.names.Name.{Name}
 use Rattle.ada_tree.specs.declared.units.Unit.{Unit as Tree}
 use Rattle.ada_regions.specs.Words.{same_place}
 use Rattle.ada_regions.specs.Names.{last_part}
-use Rattle.ada_regions.specs.Occurrences.{Occurrence, package_body, task_body, protected_body, begins, declares, declares_unit, completes, mentions, mentions_simply, mentions_entry, with_unit, use_package}
+use Rattle.ada_regions.specs.Occurrences.{Occurrence, package_body, task_body, protected_body}
+use Rattle.ada_regions.specs.Occurrences.{begins, declares, declares_unit, completes, mentions}
+use Rattle.ada_regions.specs.Occurrences.{mentions_simply, mentions_entry, with_unit, use_package}
 use Rattle.source_laws.specs.Positions.{Before, end_of}
 
 abbrev pub place_of : Identifier → Place

@@ -1,10 +1,12 @@
 -- Which region begins where (8.1): a region has a number, which is one of its own, or that of the construct whose body
 -- it is (7.2, 9.1, 9.4, 10.1.2). 0 is the number of Standard.
-use Rattle.std.specs.Prelude.{ℕ, zero, suc, Bool, true, false, not, ◌&&◌, List, [], ◌∷◌, Option, Some, None, length, eqb, is_some}
+use Rattle.std.specs.Prelude.{ℕ, zero, suc, Bool, true, false, not, ◌&&◌, List}
+use Rattle.std.specs.Prelude.{[], ◌∷◌, Option, Some, None, length, eqb, is_some}
 use Rattle.ada_tree.specs.declared.units.Unit.{Unit as Tree}
 use Rattle.ada_regions.specs.declared.entities.UnitKind.{UnitKind}
 use Rattle.ada_regions.specs.declared.entities.UnitKind.TheVariants as unit
-use Rattle.ada_regions.specs.Occurrences.{Occurrence, Region, the_context_of, package_body, task_body, protected_body, begins}
+use Rattle.ada_regions.specs.Occurrences.{Occurrence, Region, the_context_of}
+use Rattle.ada_regions.specs.Occurrences.{package_body, task_body, protected_body, begins}
 use Rattle.source_laws.specs.Positions.{Before, around, nearest, end_of}
 use Rattle.source_laws.specs.Declarations.{is_package, is_unit_of, declaration, if_so}
 

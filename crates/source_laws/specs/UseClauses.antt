@@ -1,5 +1,6 @@
 -- What use clauses make visible at a position (8.4), and with it what a direct name means there.
-use Rattle.std.specs.Prelude.{ℕ, zero, suc, Bool, true, false, cond, not, ◌&&◌, List, [], ◌∷◌, Option, Some, None, option_map, eqb, length, is_some}
+use Rattle.std.specs.Prelude.{ℕ, zero, suc, Bool, true, false, cond, not, ◌&&◌, List, []}
+use Rattle.std.specs.Prelude.{◌∷◌, Option, Some, None, option_map, eqb, length, is_some}
 use Rattle.std.specs.List.{list_any}
 use Rattle.ann_base.specs.declared.places.Place.{Place}
 use Rattle.ada_tree.specs.declared.names.Identifier.{Identifier}
@@ -9,13 +10,15 @@ use Rattle.ada_regions.specs.declared.entities.Denoted.{Denoted}
 use Rattle.ada_regions.specs.Words.{and_then, same_place}
 use Rattle.std.specs.Option.{option_or}
 use Rattle.ada_regions.specs.PredefinedUnits.{same_unit, child_unit}
-use Rattle.ada_regions.specs.Occurrences.{Occurrence, the_package, begins, ends, private_from_here, declares, declares_unit, completes, with_unit, use_package}
+use Rattle.ada_regions.specs.Occurrences.{Occurrence, the_package, begins, ends, private_from_here}
+use Rattle.ada_regions.specs.Occurrences.{declares, declares_unit, completes, with_unit, use_package}
 use Rattle.ada_regions.specs.Visibility.{item_of, is_withed_by}
 use Rattle.ada_regions.specs.Regions.{unit_named, unit_to_with}
 use Rattle.source_laws.specs.Positions.{Before, around, around_outside, nearest}
 use Rattle.source_laws.specs.Declarations.{is_named, body_completes}
 use Rattle.source_laws.specs.Regions.{number_of, number_of_innermost, first_or_none, region_of_position}
-use Rattle.source_laws.specs.DirectNames.{Meaning, is_declared, is_unit, is_item, is_nothing, is_several, meaning_of, place_declared, direct_meaning}
+use Rattle.source_laws.specs.DirectNames.{Meaning, is_declared, is_unit, is_item, is_nothing}
+use Rattle.source_laws.specs.DirectNames.{is_several, meaning_of, place_declared, direct_meaning}
 
 -- ---- what a package exports: what its declaration declares directly, and not in its private part (7.1)
 

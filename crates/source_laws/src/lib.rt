@@ -1,5 +1,6 @@
-//! Laws of the names and the image of a source. `name_laws` has those of every tree whose bodies of units complete them, `read_laws`
-//! those of a tree that is read from a source, and `accepted_laws` those of every source that is accepted.
+//! Laws of the names and the image of a source. `name_laws` has those of every tree whose bodies of
+//! units complete them, `read_laws` those of a tree that is read from a source, and `accepted_laws`
+//! those of every source that is accepted.
 #![tactic(auto)]
 
 mod accepted_laws;

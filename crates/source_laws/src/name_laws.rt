@@ -1,14 +1,20 @@
-//! Laws of names: what the table of the names of a source says at a position is what the position in the text says (ISO/IEC
-//! 8652:2012, clause 8). Each is the contract of a function that does nothing, and holds of every source in which each body of
-//! a task or protected unit completes a unit of the region around it, and is its only body.
+//! Laws of names: what the table of the names of a source says at a position is what the position
+//! in the text says (ISO/IEC 8652:2012, clause 8). Each is the contract of a function that does
+//! nothing, and holds of every source in which each body of a task or protected unit completes a
+//! unit of the region around it, and is its only body.
 //!
-//! `specs/` says what positions say, without a table, and states the laws. A position is what stands before it. `proofs/Names/Kept*`
-//! go through a text occurrence by occurrence, and keep that the table's regions, bindings and entities are those of the
-//! positions; `Flags`, `Untouched` and `Exports*` do so for what packages export, `Noted` for what is kept of the name at a
-//! place, `WithsKept` and `UsesKept` for with and use clauses. `Shows` says what a clause makes visible, `Joined` what all do,
-//! and `UseNames` with it what each name denotes. `Texts`, and what stands on it, says how the occurrences of a tree follow one
-//! another.
-ghost use Rattle.source_laws.specs.NameLaws.{TableAtTheEnd, RegionsByPosition, OpenRegionsByPosition, DeclarationsByPosition, DirectlyByPosition, ExportsByPosition, DirectNamesByPosition, MeaningsByPosition, NamesByPosition};
+//! `specs/` says what positions say, without a table, and states the laws. A position is what
+//! stands before it. `proofs/Names/Kept*` go through a text occurrence by occurrence, and keep that
+//! the table's regions, bindings and entities are those of the positions; `Flags`, `Untouched` and
+//! `Exports*` do so for what packages export, `Noted` for what is kept of the name at a place,
+//! `WithsKept` and `UsesKept` for with and use clauses. `Shows` says what a clause makes visible,
+//! `Joined` what all do, and `UseNames` with it what each name denotes. `Texts`, and what stands on
+//! it, says how the occurrences of a tree follow one another.
+ghost use Rattle.source_laws.specs.NameLaws.{TableAtTheEnd, RegionsByPosition};
+ghost use Rattle.source_laws.specs.NameLaws.{OpenRegionsByPosition};
+ghost use Rattle.source_laws.specs.NameLaws.{DeclarationsByPosition, DirectlyByPosition};
+ghost use Rattle.source_laws.specs.NameLaws.{ExportsByPosition, DirectNamesByPosition};
+ghost use Rattle.source_laws.specs.NameLaws.{MeaningsByPosition, NamesByPosition};
 
 /// The table at the end of a source is the table of the source.
 #[tactic(auto, using(crate::proofs::Names::Lawful::table_at_the_end))]

@@ -14,11 +14,13 @@ value_grows value (digit ∷ word) = omega (arith, value_grows (with_digit value
 
 front_is_less : (word : List ℕ) (i : ℕ) → numeral_value (take i word) ≤ numeral_value word
 front_is_less word i =
-    let whole : numeral_value word ≡ fold with_digit (numeral_value (take i word)) (drop i word) = ap numeral_value (sym (take-append-drop i word)) ∙ fold-append with_digit 0 (take i word) (drop i word) in
+    let whole : numeral_value word ≡ fold with_digit (numeral_value (take i word)) (drop i word) =
+    ap numeral_value (sym (take-append-drop i word)) ∙ fold-append with_digit 0 (take i word) (drop i word) in
     omega (arith, value_grows (numeral_value (take i word)) (drop i word))
 
 -- a number that is too great after some digits is too great at the end
-pub over_stays : (word : List ℕ) (i limit value : ℕ) → i < length word → value ≡ numeral_value (take i word) → limit < value * 10 + (get_or word i 0 - 48) → limit < numeral_value word
+pub over_stays : (word : List ℕ) (i limit value : ℕ) → i < length word → value ≡ numeral_value (take i word) → limit < value * 10 + (get_or word i 0 - 48)
+    → limit < numeral_value word
 over_stays word i limit value low e over =
     let more : numeral_value (take (i + 1) word) ≡ with_digit (numeral_value (take i word)) (get_or word i 0) = fold_more with_digit 0 word i 0 low in
     omega (arith, front_is_less word (i + 1))

@@ -1,6 +1,7 @@
 -- Texts of more bytes than are allowed: a reader that stops at the first line that ends too late does not see
 -- what stands behind the first byte too many.
-use Rattle.std.proofs.Common.{◌≡◌, ◌≤◌, ◌<◌, ◌+◌, ℕ, zero, suc, Bool, true, false, cond, List, [], ◌∷◌, ◌++◌, length, take, refl, sym, ap, ◌∙◌, append_assoc, length-append, ◌==◌, arith}
+use Rattle.std.proofs.Common.{◌≡◌, ◌≤◌, ◌<◌, ◌+◌, ℕ, zero, suc, Bool, true, false, cond, List, [], ◌∷◌, ◌++◌}
+use Rattle.std.proofs.Common.{length, take, refl, sym, ap, ◌∙◌, append_assoc, length-append, ◌==◌, arith}
 use Rattle.std.specs.List.{fold, onto_first}
 use Rattle.std.specs.Str.Lines.{strip_carriage_return}
 use Rattle.std.proofs.lemmas.Bool.Decides.{nat_tests}
@@ -26,21 +27,28 @@ abbrev line_of : ℕ → ℕ → List ℕ → NumberedLine
 line_of number start text = record { number = number; stop = start + length (text ++ []) + 1; text = strip_carriage_return (text ++ []) }
 
 -- What is read of a line, and what was read of all lines once one ended too late. Behind such a line nothing is read.
-module _ {S : Type 0} (limit : ℕ) (read : S → NumberedLine → S) (stopped : S → ℕ → S) (late : (s : S) (line : NumberedLine) → limit < line.stop → read s line ≡ stopped s line.number) (stays : (s : S) (number : ℕ) (lines : List NumberedLine) → fold read (stopped s number) lines ≡ stopped s number) where
+module _ {S : Type 0} (limit : ℕ) (read : S → NumberedLine → S) (stopped : S → ℕ → S)
+    (late : (s : S) (line : NumberedLine) → limit < line.stop → read s line ≡ stopped s line.number)
+    (stays : (s : S) (number : ℕ) (lines : List NumberedLine) → fold read (stopped s number) lines ≡ stopped s number) where
   late_first : (s : S) (line : NumberedLine) (lines : List NumberedLine) → limit < line.stop → fold read (read s line) lines ≡ stopped s line.number
   late_first s line lines long = ap (λ t. fold read t lines) (late s line long) ∙ stays s line.number lines
 
   -- a first line that ends too late decides
-  late_last : (s : S) (number start : ℕ) (text : List ℕ) → 0 < length text → limit < start + length text → fold read s (lines_from number start (text ∷ [])) ≡ stopped s number
-  late_last s number start text some long = rw (nonzero (length text) some) (late_first s (record { number = number; stop = start + length text; text = text }) [] long)
+  late_last : (s : S) (number start : ℕ) (text : List ℕ) → 0 < length text → limit < start + length text
+      → fold read s (lines_from number start (text ∷ [])) ≡ stopped s number
+  late_last s number start text some long =
+      rw (nonzero (length text) some) (late_first s (record { number = number; stop = start + length text; text = text }) [] long)
 
-  late_parts : (s : S) (number start : ℕ) (text part : List ℕ) (parts : List (List ℕ)) → 0 < length text → limit < start + length text → fold read s (lines_from number start (front text (part ∷ parts))) ≡ stopped s number
-  late_parts s number start text part [] some long = late_last s number start (text ++ part) (omega (arith, length-append text part)) (omega (arith, length-append text part))
+  late_parts : (s : S) (number start : ℕ) (text part : List ℕ) (parts : List (List ℕ)) → 0 < length text → limit < start + length text
+      → fold read s (lines_from number start (front text (part ∷ parts))) ≡ stopped s number
+  late_parts s number start text part [] some long =
+      late_last s number start (text ++ part) (omega (arith, length-append text part)) (omega (arith, length-append text part))
   late_parts s number start text part (next ∷ parts) some long =
       late_first s (record { number = number; stop = start + length (text ++ part) + 1; text = strip_carriage_return (text ++ part) })
       (lines_from (number + 1) (start + length (text ++ part) + 1) (next ∷ parts)) (omega (arith, length-append text part))
 
-  late_text : (s : S) (number start : ℕ) (text xs : List ℕ) → 0 < length text → limit < start + length text → fold read s (lines_from number start (front text (parts_at 10 xs))) ≡ stopped s number
+  late_text : (s : S) (number start : ℕ) (text xs : List ℕ) → 0 < length text → limit < start + length text
+      → fold read s (lines_from number start (front text (parts_at 10 xs))) ≡ stopped s number
   late_text s number start text xs some long =
       let (part, parts, e) = split_some (λ byte. byte == 10) xs in
       rw e (late_parts s number start text part parts some long)
@@ -69,10 +77,12 @@ module _ {S : Type 0} (limit : ℕ) (read : S → NumberedLine → S) (stopped :
       ∙ sym (ended s number start text whole)
   after_end (suc k) cut whole again s number start text sum =
       ended s number start text cut
-      ∙ again (read s (line_of number start text)) (number + 1) (start + length (text ++ []) + 1) [] (omega (arith, length-append text [], sum)) (omega (arith, length-append text [], sum))
+      ∙ again (read s (line_of number start text)) (number + 1) (start + length (text ++ []) + 1) [] (omega (arith, length-append text [], sum))
+      (omega (arith, length-append text [], sum))
       ∙ sym (ended s number start text whole)
 
-  one_byte : (here : Bool) (k x : ℕ) (cut whole : List ℕ) → AreReadAlike cut whole k → (s : S) (number start : ℕ) (text : List ℕ) → start + length text + suc k ≡ limit + 1 → start ≤ limit →
+  one_byte : (here : Bool) (k x : ℕ) (cut whole : List ℕ) → AreReadAlike cut whole k → (s : S) (number start : ℕ) (text : List ℕ)
+      → start + length text + suc k ≡ limit + 1 → start ≤ limit →
       fold read s (lines_from number start (front text (cond here ([] ∷ parts_at 10 cut) (onto_first x (parts_at 10 cut)))))
       ≡ fold read s (lines_from number start (front text (cond here ([] ∷ parts_at 10 whole) (onto_first x (parts_at 10 whole)))))
   one_byte true k x cut whole again s number start text sum low = after_end k cut whole again s number start text sum

@@ -1,5 +1,6 @@
 -- Numerals: whole numbers in plain decimal.
-use Rattle.std.specs.Prelude.{ℕ, ◌*◌, ◌+◌, ◌-◌, ◌==◌, ◌&&◌, ◌||◌, not, Bool, nat_le, nat_lt, if◌then◌else◌, List, length, slice_index, Option, Some, None}
+use Rattle.std.specs.Prelude.{ℕ, ◌*◌, ◌+◌, ◌-◌, ◌==◌, ◌&&◌, ◌||◌, not, Bool, nat_le, nat_lt}
+use Rattle.std.specs.Prelude.{if◌then◌else◌, List, length, slice_index, Option, Some, None}
 use Rattle.std.specs.List.{list_all, fold}
 use Rattle.std.specs.Char.{is_ascii_digit}
 

@@ -1,5 +1,6 @@
 -- What is written of a field is read as this field.
-use Rattle.std.proofs.Common.{◌≡◌, ℕ, ◌+◌, ◌<◌, ◌≤◌, ◌^◌, Bool, true, false, cond, not, ◌||◌, eqb, leb, List, [], ◌∷◌, ◌++◌, length, get_or, Option, Some, None, decimal, codes, refl, ap, sym, subst, arith, FitsSigned, w32, w64, pos, negsuc, suc, zero, ℤ}
+use Rattle.std.proofs.Common.{◌≡◌, ℕ, ◌+◌, ◌<◌, ◌≤◌, ◌^◌, Bool, true, false, cond, not, ◌||◌, eqb, leb, List, [], ◌∷◌, ◌++◌, length, get_or}
+use Rattle.std.proofs.Common.{Option, Some, None, decimal, codes, refl, ap, sym, subst, arith, FitsSigned, w32, w64, pos, negsuc, suc, zero, ℤ}
 use Rattle.std.specs.List.{list_all}
 use Rattle.std.specs.Fmt.{signed_decimal}
 use Rattle.std.proofs.lemmas.List.{append-nil}
@@ -16,8 +17,10 @@ use Rattle.trace_text.specs.declared.events.EntryName.{EntryName}
 use Rattle.trace_text.specs.declared.events.EntryName.TheVariants.{OfTask, OfObject}
 use Rattle.trace_text.specs.declared.events.Finished.{Finished}
 use Rattle.trace_text.specs.declared.events.Finished.TheVariants as finished
-use Rattle.trace_text.specs.Text.{IsName, IsExceptionName, IsPutText, IsEntryPrintable, IsEntryWithin, IsFinishedPrintable, IsFinishedWithin, IsDeadlineWithin, is_name_from, task_text, object_text, entry_text, finished_text, deadline_words, spaced}
-use Rattle.trace_fields.specs.Reading.{◌>>=◌, place_of, front_of, rest_of, field, last_field, is_number, number_in, signed_in, short_in, long_in, moment_in, value_in, task_in, object_in, name_in, text_in, exception_in, finished_in, entry_in, handler_in, deadline_in}
+use Rattle.trace_text.specs.Text.{IsName, IsExceptionName, IsPutText, IsEntryPrintable, IsEntryWithin, IsFinishedPrintable, IsFinishedWithin}
+use Rattle.trace_text.specs.Text.{IsDeadlineWithin, is_name_from, task_text, object_text, entry_text, finished_text, deadline_words, spaced}
+use Rattle.trace_fields.specs.Reading.{◌>>=◌, place_of, front_of, rest_of, field, last_field, is_number, number_in, signed_in, short_in, long_in, moment_in}
+use Rattle.trace_fields.specs.Reading.{value_in, task_in, object_in, name_in, text_in, exception_in, finished_in, entry_in, handler_in, deadline_in}
 use Rattle.std.specs.Option.{option_or}
 use Rattle.std.specs.Char.{is_ascii_digit}
 use Rattle.trace_fields.proofs.Numbers.{numerals}
@@ -51,7 +54,8 @@ front_again mark word rest h b = rw (place_of-append mark word rest h b) (take-a
 pub rest_again : (mark : ℕ) (word rest : List ℕ) → has_no mark word ≡ true → begins mark rest ≡ true → rest_of mark (word ++ rest) ≡ rest
 rest_again mark word rest h b = rw (place_of-append mark word rest h b) (drop-append_seam word rest)
 
-pub field_again : {X : Type 0} (read : List ℕ → Option X) (word rest : List ℕ) (x : X) → has_no 32 word ≡ true → begins 32 rest ≡ true → read word ≡ Some x → field read (32 ∷ (word ++ rest)) ≡ Some (x, rest)
+pub field_again : {X : Type 0} (read : List ℕ → Option X) (word rest : List ℕ) (x : X) → has_no 32 word ≡ true → begins 32 rest ≡ true → read word ≡ Some x
+    → field read (32 ∷ (word ++ rest)) ≡ Some (x, rest)
 field_again read word rest x h b e = rw (front_again 32 word rest h b, rest_again 32 word rest h b, e) refl
 
 pub last_again : {X : Type 0} (read : List ℕ → Option X) (word : List ℕ) (x : X) → read word ≡ Some x → last_field read (32 ∷ (word ++ [])) ≡ Some x
@@ -90,7 +94,8 @@ plain_again : (most n : ℕ) (bytes : List ℕ) → bytes ≡ decimal n → n �
 plain_again most n [] e small fits = absurd (omega (arith, ap length e, decimal_nonempty n fits))
 plain_again most n (byte ∷ bytes) e small fits =
     let none : has_no 45 (byte ∷ bytes) ≡ true = subst (λ text. has_no 45 text ≡ true) (sym e) (decimal_none 45 n (omega arith) fits) in
-    let first : eqb byte 45 ≡ false = elim (eqb byte 45) as (λ t. cond t false (has_no 45 bytes) ≡ true → t ≡ false) [ true ↦ λ h. cc | false ↦ λ h. refl ] none in
+    let first : eqb byte 45 ≡ false =
+    elim (eqb byte 45) as (λ t. cond t false (has_no 45 bytes) ≡ true → t ≡ false) [ true ↦ λ h. cc | false ↦ λ h. refl ] none in
     let number : number_in most (byte ∷ bytes) ≡ Some n = subst (λ text. number_in most text ≡ Some n) (sym e) (number_again most n small fits) in
     rw (first, number) refl
 
@@ -146,18 +151,26 @@ pub name_none : (begun : Bool) (name : List ℕ) → is_name_from begun name ≡
 name_none begun [] h = refl
 name_none begun (byte ∷ name) h = grind (arith, nat_tests, name_none true name, name_none false name)
 
-entry_owned : (owner name : List ℕ) (entry : EntryName) → has_no 46 owner ≡ true → name_in name ≡ Some name → option_or (task_in owner >>= λ task. Some (OfTask task name)) (object_in owner >>= λ object. Some (OfObject object name)) ≡ Some entry → entry_in (owner ++ 46 ∷ name) ≡ Some entry
+entry_owned : (owner name : List ℕ) (entry : EntryName) → has_no 46 owner ≡ true → name_in name ≡ Some name
+    → option_or (task_in owner >>= λ task. Some (OfTask task name)) (object_in owner >>= λ object. Some (OfObject object name)) ≡ Some entry
+    → entry_in (owner ++ 46 ∷ name) ≡ Some entry
 entry_owned owner name entry none h e = rw (rest_again 46 owner (46 ∷ name) none refl, front_again 46 owner (46 ∷ name) none refl, h) e
 
 pub entry_again : (entry : EntryName) → IsEntryWithin entry → IsEntryPrintable entry → entry_in (entry_text entry) ≡ Some entry
-entry_again (OfTask task name) w p = entry_owned (task_text task) name (OfTask task name) (task_none 46 task (omega arith) w.0) (name_again name p w.1) (rw (long_again task.0 w.0) refl)
-entry_again (OfObject object name) w p = entry_owned (object_text object) name (OfObject object name) (object_none 46 object (omega arith) w.0) (name_again name p w.1) (rw (long_again object.0 w.0) refl)
+entry_again (OfTask task name) w p =
+    entry_owned (task_text task) name (OfTask task name) (task_none 46 task (omega arith) w.0) (name_again name p w.1) (rw (long_again task.0 w.0) refl)
+entry_again (OfObject object name) w p =
+    entry_owned (object_text object) name (OfObject object name) (object_none 46 object (omega arith) w.0) (name_again name p w.1)
+    (rw (long_again object.0 w.0) refl)
 
-handler_owned : (owner name : List ℕ) (object : ObjectNo) → has_no 46 owner ≡ true → name_in name ≡ Some name → object_in owner ≡ Some object → handler_in (owner ++ 46 ∷ name) ≡ Some (object, name)
+handler_owned : (owner name : List ℕ) (object : ObjectNo) → has_no 46 owner ≡ true → name_in name ≡ Some name → object_in owner ≡ Some object
+    → handler_in (owner ++ 46 ∷ name) ≡ Some (object, name)
 handler_owned owner name object none h e = rw (rest_again 46 owner (46 ∷ name) none refl, front_again 46 owner (46 ∷ name) none refl, h, e) refl
 
-pub handler_again : (object : ObjectNo) (name : List ℕ) → object.0 < 2 ^ 32 → length name ≤ 1000 → IsName name → handler_in (object_text object ++ 46 ∷ name) ≡ Some (object, name)
-handler_again object name fits small h = handler_owned (object_text object) name object (object_none 46 object (omega arith) fits) (name_again name h small) (object_again object fits)
+pub handler_again : (object : ObjectNo) (name : List ℕ) → object.0 < 2 ^ 32 → length name ≤ 1000 → IsName name
+    → handler_in (object_text object ++ 46 ∷ name) ≡ Some (object, name)
+handler_again object name fits small h =
+    handler_owned (object_text object) name object (object_none 46 object (omega arith) fits) (name_again name h small) (object_again object fits)
 
 pub entry_none : (entry : EntryName) → IsEntryWithin entry → IsEntryPrintable entry → has_no 32 (entry_text entry) ≡ true
 entry_none (OfTask task name) w p = has_no-append 32 (task_text task) (46 ∷ name) (task_none 32 task (omega arith) w.0) (name_none false name p)

@@ -28,7 +28,8 @@ pub decimal-digits : (bytes : List ℕ) → is_number bytes ≡ true → digits_
 decimal-digits bytes e small = let h = number_parts bytes e in decimal-digits_value numerals bytes h.digits h.some h.plain small
 
 -- what is parsed is the number of the digits, and nothing is parsed only where it is too great
-pub digits_parsed : {E : Type 0} (bytes : List ℕ) (r : Result ℕ E) → ParsesUnsigned 64 10 bytes r → is_number bytes ≡ true → MatchOption (result_ok r) (2 ^ 64 ≤ digits_value 10 bytes) (λ n. n ≡ digits_value 10 bytes)
+pub digits_parsed : {E : Type 0} (bytes : List ℕ) (r : Result ℕ E) → ParsesUnsigned 64 10 bytes r → is_number bytes ≡ true
+    → MatchOption (result_ok r) (2 ^ 64 ≤ digits_value 10 bytes) (λ n. n ≡ digits_value 10 bytes)
 digits_parsed {E} bytes (Ok n) h e = (parse_digits numerals {E = E} 64 bytes (Ok n) h (number_parts bytes e).digits).1
 digits_parsed {E} bytes (Err x) h e =
     let parts = number_parts bytes e in
@@ -36,10 +37,12 @@ digits_parsed {E} bytes (Err x) h e =
     elim (cases_lt (digits_value 10 bytes) (2 ^ 64)) [ inl small ↦ absurd (no (parts.some, small)) | inr large ↦ large ]
 
 -- and they are the text of this number
-pub digits_spelt : {E : Type 0} (bytes : List ℕ) (r : Result ℕ E) → ParsesUnsigned 64 10 bytes r → is_number bytes ≡ true → IfSome (result_ok r) (λ n. bytes ≡ decimal n)
+pub digits_spelt : {E : Type 0} (bytes : List ℕ) (r : Result ℕ E) → ParsesUnsigned 64 10 bytes r → is_number bytes ≡ true
+    → IfSome (result_ok r) (λ n. bytes ≡ decimal n)
 digits_spelt {E} bytes (Ok n) h e =
     let parts = number_parts bytes e in
-    let found : ((0 < length bytes) × (digits_value 10 bytes < 2 ^ 64)) × (n ≡ digits_value 10 bytes) = parse_digits numerals {E = E} 64 bytes (Ok n) h parts.digits in
+    let found : ((0 < length bytes) × (digits_value 10 bytes < 2 ^ 64)) × (n ≡ digits_value 10 bytes) =
+    parse_digits numerals {E = E} 64 bytes (Ok n) h parts.digits in
     sym (decimal-digits bytes e found.0.1) ∙ ap decimal (sym found.1)
 digits_spelt {E} bytes (Err x) h e = tt
 

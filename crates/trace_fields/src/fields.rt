@@ -1,13 +1,23 @@
 //! How the fields of a line are read.
-ghost use Rattle.std.specs.Prelude.{◌≡◌, ◌+◌, ◌<◌, ◌≤◌, ◌^◌, ◌∷◌, [], ◌++◌, false, length, IfSome, IsTrue, MatchOption, decimal};
+ghost use Rattle.std.specs.Prelude.{◌≡◌, ◌+◌, ◌<◌, ◌≤◌, ◌^◌, ◌∷◌, [], ◌++◌, false};
+ghost use Rattle.std.specs.Prelude.{length, IfSome, IsTrue, MatchOption, decimal};
 ghost use Rattle.std.specs.List.{list_all};
 ghost use Rattle.std.specs.Char.{is_ascii_digit};
 ghost use Rattle.std.specs.Str.Parse.{digits_value};
 ghost use Rattle.std.specs.Fmt.{signed_decimal};
-ghost use Rattle.trace_text.specs.Text.{IsName, IsExceptionName, IsPutText, IsEntryPrintable, IsFinishedPrintable, is_name_from, is_name_byte, is_text_byte, task_text, object_text, entry_text, finished_text, queue_end_text, waits_text, mode_text, deadline_words, spaced};
+ghost use Rattle.trace_text.specs.Text.{IsName, IsExceptionName, IsPutText};
+ghost use Rattle.trace_text.specs.Text.{IsEntryPrintable, IsFinishedPrintable, is_name_from};
+ghost use Rattle.trace_text.specs.Text.{is_name_byte, is_text_byte, task_text, object_text};
+ghost use Rattle.trace_text.specs.Text.{entry_text, finished_text, queue_end_text};
+ghost use Rattle.trace_text.specs.Text.{waits_text, mode_text, deadline_words, spaced};
 ghost use Rattle.trace_text.specs.Words.{word_text};
 ghost use Rattle.trace_fields.specs.Spelt.{queue_end_in, word_in, waits_in, mode_in};
-ghost use Rattle.trace_fields.specs.Reading.{ReadsAs, place_of, front_of, rest_of, behind, word_at, field, last_field, ended, is_number, number_in, negative_of, signed_in, short_in, long_in, moment_in, value_in, task_in, object_in, name_in, text_in, exception_in, finished_in, part_in, entry_in, handler_in, deadline_in};
+ghost use Rattle.trace_fields.specs.Reading.{ReadsAs, place_of, front_of, rest_of, behind};
+ghost use Rattle.trace_fields.specs.Reading.{word_at, field, last_field, ended, is_number};
+ghost use Rattle.trace_fields.specs.Reading.{number_in, negative_of, signed_in, short_in};
+ghost use Rattle.trace_fields.specs.Reading.{long_in, moment_in, value_in, task_in, object_in};
+ghost use Rattle.trace_fields.specs.Reading.{name_in, text_in, exception_in, finished_in};
+ghost use Rattle.trace_fields.specs.Reading.{part_in, entry_in, handler_in, deadline_in};
 
 use crate::words::{mode_of, queue_end_of, waits_of, word_of};
 use ann_base::{Moment, NAME_BYTES, Name, ObjectNo, TaskNo};

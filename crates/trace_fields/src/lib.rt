@@ -1,5 +1,5 @@
-//! How the words and fields of a line of a trace are read: exactly those that `trace_text` writes, each as what it was written
-//! from.
+//! How the words and fields of a line of a trace are read: exactly those that `trace_text` writes,
+//! each as what it was written from.
 #![tactic(auto)]
 
 mod fields;

@@ -1,5 +1,6 @@
 -- The lines of a formed trace, and how far a trace is reported.
-use Rattle.std.specs.Prelude.{◌≡◌, ◌≤◌, ℕ, ◌+◌, nat_lt, if◌then◌else◌, List, [], ◌∷◌, ◌++◌, Option, Some, None, Result, Ok, Err, length}
+use Rattle.std.specs.Prelude.{◌≡◌, ◌≤◌, ℕ, ◌+◌, nat_lt, if◌then◌else◌, List, [], ◌∷◌}
+use Rattle.std.specs.Prelude.{◌++◌, Option, Some, None, Result, Ok, Err, length}
 use Rattle.trace_text.specs.Queue.{TraceLine}
 use Rattle.trace_text.specs.Laws.{Formed, follows_form}
 use Rattle.trace_reading.specs.Lines.{line_in}

@@ -11,9 +11,9 @@ use ann_base::{Failed, OrMemory, Shelf};
 use std::alloc::Global;
 use trace_laws::{LawFault, Laws, Verdict, answers_tell};
 
-/// The verdict on the trace in the named file: that it is lawful, or its first line that breaks a law or is refused. It
-/// is read line by line, up to the line that offends, and no line is kept. Where the shelf tells its files, this one is
-/// among them.
+/// The verdict on the trace in the named file: that it is lawful, or its first line that breaks a
+/// law or is refused. It is read line by line, up to the line that offends, and no line is kept.
+/// Where the shelf tells its files, this one is among them.
 ///
 /// Errors: `Fault` where the shelf failed, or tells its files and lacks this one.
 pub fn judge_file<S: Shelf>(

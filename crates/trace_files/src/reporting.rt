@@ -16,13 +16,14 @@ use trace_text::tests_tell;
 pub enum FileReport {
     /// The report of its lines, which are formed.
     Formed(Report),
-    /// This line is the first that is refused, counted from 1: it is none, does not keep the lines formed, or goes on
-    /// beyond the most bytes.
+    /// This line is the first that is refused, counted from 1: it is none, does not keep the lines
+    /// formed, or goes on beyond the most bytes.
     Refused(u64),
 }
 
-/// The report of the trace in the named file, or its first line that is refused. It is read line by line, up to that line,
-/// and no line is kept. Where the shelf tells its files, this one is among them.
+/// The report of the trace in the named file, or its first line that is refused. It is read line by
+/// line, up to that line, and no line is kept. Where the shelf tells its files, this one is among
+/// them.
 ///
 /// Errors: `Fault` where the shelf failed, or tells its files and lacks this one.
 pub fn report_file<S: Shelf>(

@@ -17,7 +17,8 @@ use trace_text::{Event, LINE_BYTES};
 #[derive(Drop)]
 pub struct TraceFile {
     lines: Lines,
-    /// The text that was read last, or the first of its bytes where it is longer than a line may be.
+    /// The text that was read last, or the first of its bytes where it is longer than a line may
+    /// be.
     text: Vec<u8>,
     /// How many bytes the lines that were read have.
     before: usize,

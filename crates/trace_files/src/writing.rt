@@ -15,8 +15,8 @@ use outside_bytes::write_all;
 use run_report::{Report, write_account, write_totals};
 use std::alloc::Global;
 
-/// Writes a report: a line for each task in the order of the `new` lines, and three for the whole. After a failure a prefix
-/// of it was written.
+/// Writes a report: a line for each task in the order of the `new` lines, and three for the whole.
+/// After a failure a prefix of it was written.
 pub fn write_report<K: Sink>(
     alloc: Global,
     out: &mut K,

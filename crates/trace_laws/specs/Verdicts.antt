@@ -1,6 +1,7 @@
 -- What is answered of the bytes of a whole trace: the first line that is no line, does not keep the list formed or
 -- breaks a law.
-use Rattle.std.specs.Prelude.{◌≡◌, ◌<◌, ◌≤◌, ◌⊎◌, ℕ, ◌+◌, ◌==◌, if◌then◌else◌, nat_lt, List, [], ◌∷◌, ◌++◌, Option, Some, None, Result, Ok, Err, length}
+use Rattle.std.specs.Prelude.{◌≡◌, ◌<◌, ◌≤◌, ◌⊎◌, ℕ, ◌+◌, ◌==◌, if◌then◌else◌, nat_lt, List}
+use Rattle.std.specs.Prelude.{[], ◌∷◌, ◌++◌, Option, Some, None, Result, Ok, Err, length}
 use Rattle.trace_text.specs.Queue.{TraceLine}
 use Rattle.trace_text.specs.Laws.{Formed, KeepsLaws}
 use Rattle.trace_reading.specs.Lines.{line_in}

@@ -1,11 +1,14 @@
 -- What is kept of a list of lines to tell which law a further line breaks, and what is answered of a list.
-use Rattle.std.specs.Prelude.{◌≡◌, ℕ, Bool, not, ◌&&◌, ◌||◌, ◌==◌, if◌then◌else◌, nat_le, List, [], ◌∷◌, Option, Some, None, Result, Ok, Err}
+use Rattle.std.specs.Prelude.{◌≡◌, ℕ, Bool, not, ◌&&◌, ◌||◌, ◌==◌, if◌then◌else◌, nat_le}
+use Rattle.std.specs.Prelude.{List, [], ◌∷◌, Option, Some, None, Result, Ok, Err}
 use Rattle.std.specs.Option.{option_to_list}
 use Rattle.trace_text.specs.declared.events.Action.{Action}
 use Rattle.trace_text.specs.declared.events.Event.{Event}
 use Rattle.trace_text.specs.declared.events.Event.TheVariants.{Release, Serve, Served}
 use Rattle.trace_text.specs.Queue.{TraceLine, somebody_eq, who_of, head_of}
-use Rattle.trace_text.specs.Laws.{Levels, is_below_ceiling, actions_after, is_exclusive, Releases, is_in_order, is_agent_right, follows_dispatch, follows_ceilings, follows_exclusion, follows_handlers, follows_leaving, follows_form}
+use Rattle.trace_text.specs.Laws.{Levels, is_below_ceiling, actions_after, is_exclusive, Releases}
+use Rattle.trace_text.specs.Laws.{is_in_order, is_agent_right, follows_dispatch, follows_ceilings}
+use Rattle.trace_text.specs.Laws.{follows_exclusion, follows_handlers, follows_leaving, follows_form}
 use Rattle.trace_lines.specs.Seen.{Seen, nothing_kept, see_line, is_formed_after}
 use Rattle.trace_laws.specs.Regions.{Leavings, no_leavings, leavings_after, is_left_rightly}
 use Rattle.trace_laws.specs.declared.counts.Counts.{Counts}

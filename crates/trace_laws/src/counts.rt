@@ -6,7 +6,8 @@ ghost use Rattle.trace_laws.specs.Watched.{counts_after, other_than, releases_in
 
 use trace_text::Event;
 
-/// How many releases there were, how many began and how many ended, and the one that is being served.
+/// How many releases there were, how many began and how many ended, and the one that is being
+/// served.
 #[derive(Clone, Copy, PartialEq, Eq)]
 pub struct Counts {
     pub released: u32,

@@ -3,9 +3,12 @@ ghost use Rattle.std.specs.Prelude.{◌≡◌, ◌==◌, ◌||◌, not, length, 
 ghost use Rattle.std.specs.Option.{option_to_list};
 ghost use Rattle.ann_base.specs.Answers.{Answers};
 ghost use Rattle.trace_text.specs.Queue.{TraceLine, somebody_eq};
-ghost use Rattle.trace_text.specs.Laws.{Formed, KeepsLaws, is_at_most, is_base_below, is_entry_below, base_of, is_below_ceiling, is_agent_right};
+ghost use Rattle.trace_text.specs.Laws.{Formed, KeepsLaws, is_at_most, is_base_below};
+ghost use Rattle.trace_text.specs.Laws.{is_entry_below, base_of, is_below_ceiling, is_agent_right};
 ghost use Rattle.trace_lines.specs.Seen.{with_line};
-ghost use Rattle.trace_laws.specs.Watched.{nothing_watched, watch_line, StandsFor, levels_in, releases_in, is_dispatch_kept, are_handlers_kept, broken_by, answer_after, answer_of};
+ghost use Rattle.trace_laws.specs.Watched.{nothing_watched, watch_line, StandsFor, levels_in};
+ghost use Rattle.trace_laws.specs.Watched.{releases_in, is_dispatch_kept, are_handlers_kept};
+ghost use Rattle.trace_laws.specs.Watched.{broken_by, answer_after, answer_of};
 
 use crate::counts::Counts;
 use crate::regions::Regions;
@@ -20,15 +23,18 @@ use trace_text::{Action, Entry, Event, Who};
 /// A law on the lines of a trace, in the order in which they are asked.
 #[derive(Clone, Copy, PartialEq, Eq)]
 pub enum Law {
-    /// At each tick the head of the highest nonempty ready queue runs, and nobody where all are empty (D.2.1, D.2.6).
+    /// At each tick the head of the highest nonempty ready queue runs, and nobody where all are
+    /// empty (D.2.1, D.2.6).
     Dispatch,
     /// No protected object is entered above its ceiling (D.3).
     Ceiling,
     /// No write is open beside another action on its object (9.5.1).
     Exclusive,
-    /// Handlers are served in the order of their releases, one at a time, and the agent is ready while one is to be served.
+    /// Handlers are served in the order of their releases, one at a time, and the agent is ready
+    /// while one is to be served.
     Handlers,
-    /// A region that is left has finalized its objects once each, in the reverse of their order (7.6.1).
+    /// A region that is left has finalized its objects once each, in the reverse of their order
+    /// (7.6.1).
     Left,
 }
 
@@ -41,8 +47,8 @@ pub enum LawFault {
     Broken(Law),
 }
 
-/// What is kept of a list of lines that is formed and keeps the laws. It keeps no lines. Contracts see the facts, which
-/// stand for the list.
+/// What is kept of a list of lines that is formed and keeps the laws. It keeps no lines. Contracts
+/// see the facts, which stand for the list.
 #[derive(Drop)]
 pub struct Laws {
     lines: Lines,
@@ -148,7 +154,8 @@ fn is_agent_serving(runner: Option<Who>, serving: Option<u32>) -> bool
     }
 }
 
-// The agent is ready exactly where a release is to be served, and runs only where one is being served.
+// The agent is ready exactly where a release is to be served, and runs only where one is being
+// served.
 fn is_agent_right(lines: &Lines, counts: &Counts) -> bool
     ensures { result ≡ is_agent_right (releases_in lines.now counts.now) }
 {
@@ -187,9 +194,9 @@ impl Laws {
     ///
     /// # Errors
     ///
-    /// Of a list that is formed and keeps the laws: `Malformed` exactly where it does not stay formed with this line,
-    /// `Broken` exactly where it stays formed and breaks a law, with the first one in their order.
-    /// An error changes nothing.
+    /// Of a list that is formed and keeps the laws: `Malformed` exactly where it does not stay
+    /// formed with this line, `Broken` exactly where it stays formed and breaks a law, with the
+    /// first one in their order. An error changes nothing.
     pub fn line(&mut self, now: u64, event: &Event) -> Result<(), OrMemory<LawFault>>
         ensures answer { (lines : List TraceLine) → Formed lines → KeepsLaws lines
             → StandsFor self.old lines

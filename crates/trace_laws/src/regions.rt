@@ -2,7 +2,9 @@
 ghost use Rattle.std.specs.Prelude.{◌≡◌, ◌<◌, IfOk, OnOk};
 ghost use Rattle.std.specs.List.{list_all};
 ghost use Rattle.trace_text.specs.Laws.{has, is_front_of};
-ghost use Rattle.trace_laws.specs.Regions.{no_leavings, leavings_in, leavings_after, objects_in, finals_in, is_open, is_next_final_in, is_registered, is_next_final_of, is_left_rightly};
+ghost use Rattle.trace_laws.specs.Regions.{no_leavings, leavings_in, leavings_after};
+ghost use Rattle.trace_laws.specs.Regions.{objects_in, finals_in, is_open, is_next_final_in};
+ghost use Rattle.trace_laws.specs.Regions.{is_registered, is_next_final_of, is_left_rightly};
 ghost use Rattle.trace_laws.specs.Room.{HasRoom};
 
 use ann_base::NoMemory;

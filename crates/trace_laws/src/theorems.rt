@@ -1,4 +1,5 @@
-//! What the facts say of the laws, as a call that does nothing: its contract is theorems on the definitions.
+//! What the facts say of the laws, as a call that does nothing: its contract is theorems on the
+//! definitions.
 ghost use Rattle.std.specs.Prelude.{◌≡◌, ℕ, List, Ok};
 ghost use Rattle.trace_text.specs.declared.events.Event.{Event};
 ghost use Rattle.trace_text.specs.Queue.{TraceLine};
@@ -6,15 +7,17 @@ ghost use Rattle.trace_text.specs.Laws.{Formed, KeepsLaws};
 ghost use Rattle.trace_lines.specs.Seen.{with_line};
 ghost use Rattle.trace_laws.specs.Watched.{watched_of, watch_line, answer_after, answer_of};
 ghost use Rattle.trace_laws.specs.Verdicts.{texts_in, laws_answer, Says};
-ghost use Rattle.trace_laws.specs.Rows.{lawful_row, wrong_runner, low_ceiling, not_finalized, new_twice};
+ghost use Rattle.trace_laws.specs.Rows.{lawful_row, wrong_runner, low_ceiling};
+ghost use Rattle.trace_laws.specs.Rows.{not_finalized, new_twice};
 
 use crate::laws::Law;
 use crate::verdicts::Verdict;
 use trace_lines::facts_tell;
 use trace_text::tests_tell;
 
-/// What is answered by the facts of a list that is formed and keeps the laws is what is to be answered of the list with the
-/// further line; where nothing is wrong, the longer list is formed and keeps the laws.
+/// What is answered by the facts of a list that is formed and keeps the laws is what is to be
+/// answered of the list with the further line; where nothing is wrong, the longer list is formed
+/// and keeps the laws.
 pub fn answers_tell()
     ensures answer { (lines : List TraceLine) (tick : ℕ) (event : Event)
         → Formed lines → KeepsLaws lines
@@ -28,8 +31,9 @@ pub fn answers_tell()
     tests_tell();
 }
 
-/// What is answered of the bytes of a trace: that they are a formed list of lines that keeps the laws, or the first line that
-/// breaks a law or is refused, behind lines that are formed and keep the laws. Of no other answer this is true.
+/// What is answered of the bytes of a trace: that they are a formed list of lines that keeps the
+/// laws, or the first line that breaks a law or is refused, behind lines that are formed and keep
+/// the laws. Of no other answer this is true.
 pub fn verdicts_tell()
     ensures says { (bytes : List ℕ) → Says (texts_in bytes) (laws_answer bytes) }
     ensures only { (bytes : List ℕ) (verdict : Verdict) → Says (texts_in bytes) verdict

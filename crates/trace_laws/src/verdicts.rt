@@ -11,6 +11,7 @@ pub enum Verdict {
     Lawful(u64),
     /// This line is the first that offends, and it breaks this law.
     Broken(u64, Law),
-    /// This line is the first that offends: it is none, does not keep the list formed, or goes on beyond the most bytes.
+    /// This line is the first that offends: it is none, does not keep the list formed, or goes on
+    /// beyond the most bytes.
     Refused(u64),
 }

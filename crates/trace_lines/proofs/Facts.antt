@@ -28,21 +28,27 @@ pub tick_kept : (seen : Seen) (lines : List TraceLine) → (seen_after seen line
 tick_kept seen [] = refl
 tick_kept seen (line ∷ lines) = tick_kept (see_line seen line) lines
 
-base_step : (number : ℕ) (kept bases : List (ℕ × ℕ)) (event : Event) → level_of number kept ≡ level_of number bases → level_of number (kept_bases kept event) ≡ level_of number (bases_after bases event)
-base_step number kept bases (New (created.Task task) name level) h = level_of-insert_entry number kept task.0 level ∙ ap (cond (eqb number task.0) (Some level)) h
+base_step : (number : ℕ) (kept bases : List (ℕ × ℕ)) (event : Event) → level_of number kept ≡ level_of number bases
+    → level_of number (kept_bases kept event) ≡ level_of number (bases_after bases event)
+base_step number kept bases (New (created.Task task) name level) h =
+    level_of-insert_entry number kept task.0 level ∙ ap (cond (eqb number task.0) (Some level)) h
 base_step number kept bases (Base task level) h = level_of-insert_entry number kept task.0 level ∙ ap (cond (eqb number task.0) (Some level)) h
 base_step number kept bases _ h = h
 
-ceiling_step : (number : ℕ) (kept ceilings : List (ℕ × ℕ)) (event : Event) → level_of number kept ≡ level_of number ceilings → level_of number (kept_ceilings kept event) ≡ level_of number (ceilings_after ceilings event)
-ceiling_step number kept ceilings (New (created.Object object) name level) h = level_of-insert_entry number kept object.0 level ∙ ap (cond (eqb number object.0) (Some level)) h
+ceiling_step : (number : ℕ) (kept ceilings : List (ℕ × ℕ)) (event : Event) → level_of number kept ≡ level_of number ceilings
+    → level_of number (kept_ceilings kept event) ≡ level_of number (ceilings_after ceilings event)
+ceiling_step number kept ceilings (New (created.Object object) name level) h =
+    level_of-insert_entry number kept object.0 level ∙ ap (cond (eqb number object.0) (Some level)) h
 ceiling_step number kept ceilings _ h = h
 
 pub base_kept : (number : ℕ) (seen : Seen) (levels : Levels) (lines : List TraceLine) → level_of number seen.bases ≡ level_of number levels.bases
     → level_of number (seen_after seen lines).bases ≡ level_of number (seen_from see_levels levels lines).bases
 base_kept number seen levels [] h = h
-base_kept number seen levels (line ∷ lines) h = base_kept number (see_line seen line) (see_levels levels line.1) lines (base_step number seen.bases levels.bases line.1 h)
+base_kept number seen levels (line ∷ lines) h =
+    base_kept number (see_line seen line) (see_levels levels line.1) lines (base_step number seen.bases levels.bases line.1 h)
 
 pub ceiling_kept : (number : ℕ) (seen : Seen) (levels : Levels) (lines : List TraceLine) → level_of number seen.ceilings ≡ level_of number levels.ceilings
     → level_of number (seen_after seen lines).ceilings ≡ level_of number (seen_from see_levels levels lines).ceilings
 ceiling_kept number seen levels [] h = h
-ceiling_kept number seen levels (line ∷ lines) h = ceiling_kept number (see_line seen line) (see_levels levels line.1) lines (ceiling_step number seen.ceilings levels.ceilings line.1 h)
+ceiling_kept number seen levels (line ∷ lines) h =
+    ceiling_kept number (see_line seen line) (see_levels levels line.1) lines (ceiling_step number seen.ceilings levels.ceilings line.1 h)

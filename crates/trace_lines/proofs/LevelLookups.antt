@@ -19,7 +19,8 @@ is_at-eqb a b = elim (cases_lt a b) [
   | inr above ↦ grind (arith, nat_tests)
 ]
 
-pub level_of-insert_entry : (number : ℕ) (levels : List (ℕ × ℕ)) (key level : ℕ) → level_of number (insert_entry nat_cmp levels key level) ≡ cond (eqb number key) (Some level) (level_of number levels)
+pub level_of-insert_entry : (number : ℕ) (levels : List (ℕ × ℕ)) (key level : ℕ)
+    → level_of number (insert_entry nat_cmp levels key level) ≡ cond (eqb number key) (Some level) (level_of number levels)
 level_of-insert_entry number [] key level = refl
 level_of-insert_entry number (e ∷ levels) key level = grind (arith, common_steps, level_of-insert_entry number levels key level)
 
@@ -31,9 +32,11 @@ or-cond : (a b : Bool) → cond a true b ≡ (a || b)
 or-cond true b = refl
 or-cond false b = refl
 
-pub has-insert_entry : (number : ℕ) (levels : List (ℕ × ℕ)) (key level : ℕ) → has number (keys_of (insert_entry nat_cmp levels key level)) ≡ (eqb number key || has number (keys_of levels))
+pub has-insert_entry : (number : ℕ) (levels : List (ℕ × ℕ)) (key level : ℕ)
+    → has number (keys_of (insert_entry nat_cmp levels key level)) ≡ (eqb number key || has number (keys_of levels))
 has-insert_entry number levels key level =
-    has-keys number (insert_entry nat_cmp levels key level) ∙ ap is_some (level_of-insert_entry number levels key level) ∙ is_some-cond (eqb number key) level (level_of number levels)
+    has-keys number (insert_entry nat_cmp levels key level) ∙ ap is_some (level_of-insert_entry number levels key level)
+    ∙ is_some-cond (eqb number key) level (level_of number levels)
     ∙ or-cond (eqb number key) (is_some (level_of number levels)) ∙ ap (λ b. eqb number key || b) (sym (has-keys number levels))
 
 pub lookup-level_of : (number : ℕ) (levels : List (ℕ × ℕ)) → lookup (is_at (nat_cmp number)) levels ≡ level_of number levels

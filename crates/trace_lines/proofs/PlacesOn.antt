@@ -18,13 +18,15 @@ on_cond P false x y here there = there
 
 -- what was inserted at a key that nothing was at is taken out again
 module _ {K X : Type 0} (cmp : K → K → Ordering) (itself : (k : K) → is_eq (cmp k k) ≡ true) where
-  removed_by : (k j : K) (x y : X) (es : List (K × X)) (o : Ordering) → cmp k j ≡ o → is_eq o ≡ false → remove_entry (is_at (cmp k)) (insert_entry cmp es k x) ≡ es
+  removed_by : (k j : K) (x y : X) (es : List (K × X)) (o : Ordering) → cmp k j ≡ o → is_eq o ≡ false
+      → remove_entry (is_at (cmp k)) (insert_entry cmp es k x) ≡ es
       → remove_entry (is_at (cmp k)) (match_ordering o ((k, x) ∷ (j, y) ∷ es) ((j, x) ∷ es) ((j, y) ∷ insert_entry cmp es k x)) ≡ (j, y) ∷ es
   removed_by k j x y es Less e apart rest = rw (itself k) refl
   removed_by k j x y es Equal e apart rest = cc
   removed_by k j x y es Greater e apart rest = rw (e, rest) refl
 
-  removed_cons : (k j : K) (x y : X) (es : List (K × X)) (b : Bool) → is_eq (cmp k j) ≡ b → cond b (Some y) (lookup (is_at (cmp k)) es) ≡ None → (lookup (is_at (cmp k)) es ≡ None → remove_entry (is_at (cmp k)) (insert_entry cmp es k x) ≡ es)
+  removed_cons : (k j : K) (x y : X) (es : List (K × X)) (b : Bool) → is_eq (cmp k j) ≡ b → cond b (Some y) (lookup (is_at (cmp k)) es) ≡ None
+      → (lookup (is_at (cmp k)) es ≡ None → remove_entry (is_at (cmp k)) (insert_entry cmp es k x) ≡ es)
       → remove_entry (is_at (cmp k)) (insert_entry cmp ((j, y) ∷ es) k x) ≡ (j, y) ∷ es
   removed_cons k j x y es true e none rest = cc
   removed_cons k j x y es false e none rest = removed_by k j x y es (cmp k j) refl e (rest none)
@@ -84,11 +86,13 @@ unranked_behind first next rank (e ∷ es) from rises =
 
 -- ---- one entry more
 
-pub insert_first : (place next : ℕ) (entry : Entry) (es : List (ℕ × Entry)) → Rises (place + 1) es next → insert_entry nat_cmp es place entry ≡ (place, entry) ∷ es
+pub insert_first : (place next : ℕ) (entry : Entry) (es : List (ℕ × Entry)) → Rises (place + 1) es next
+    → insert_entry nat_cmp es place entry ≡ (place, entry) ∷ es
 insert_first place next entry [] rises = refl
 insert_first place next entry (e ∷ es) rises = rw (nat_below place e.0 (omega (arith, rises.0))) refl
 
-pub insert_last : (first place : ℕ) (entry : Entry) (es : List (ℕ × Entry)) → Rises first es place → insert_entry nat_cmp es place entry ≡ es ++ (place, entry) ∷ []
+pub insert_last : (first place : ℕ) (entry : Entry) (es : List (ℕ × Entry)) → Rises first es place
+    → insert_entry nat_cmp es place entry ≡ es ++ (place, entry) ∷ []
 insert_last first place entry [] rises = refl
 insert_last first place entry (e ∷ es) rises =
     let over = rises_over (e.0 + 1) place es rises.1 in
@@ -107,7 +111,8 @@ rises_removed first next place (e ∷ es) rises = on_cond (λ xs. Rises first xs
     (rises.0, rises_removed (e.0 + 1) next place es rises.1)
 
 -- what was put in is taken out again
-pub back_to : (key rank : Rank) (found : Rank → Option Entry) (entry : Entry) → found key ≡ None → cond (is_at (rank_cmp key) rank) None (cond (is_at (rank_cmp key) rank) (Some entry) (found rank)) ≡ found rank
+pub back_to : (key rank : Rank) (found : Rank → Option Entry) (entry : Entry) → found key ≡ None
+    → cond (is_at (rank_cmp key) rank) None (cond (is_at (rank_cmp key) rank) (Some entry) (found rank)) ≡ found rank
 back_to key rank found entry none = elim (cases_Bool (is_eq (rank_cmp key rank))) [
   | inl same ↦ rw same (sym (ap found (sym (rank_same key rank same)) ∙ none))
   | inr differs ↦ rw differs refl

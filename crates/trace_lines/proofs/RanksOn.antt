@@ -1,5 +1,6 @@
 -- The order of ranks.
-use Rattle.std.proofs.Common.{◌≡◌, ◌<◌, ℕ, ℤ, pos, negsuc, Bool, true, false, not, ◌&&◌, ◌||◌, eqb, ltb, Option, Some, None, is_some, refl, ap, sym, ◌∙◌, arith, inl, inr}
+use Rattle.std.proofs.Common.{◌≡◌, ◌<◌, ℕ, ℤ, pos, negsuc, Bool, true, false, not, ◌&&◌, ◌||◌, eqb}
+use Rattle.std.proofs.Common.{ltb, Option, Some, None, is_some, refl, ap, sym, ◌∙◌, arith, inl, inr}
 use Rattle.std.specs.Option.{unwrap_or}
 use Rattle.std.specs.declared.cmp.Ordering.{Ordering}
 use Rattle.std.specs.declared.cmp.Ordering.TheVariants.{Less, Equal, Greater}
@@ -40,13 +41,19 @@ same_parts a b level undated deadline place =
 -- what the order does not tell apart is the same
 pub rank_same : (a b : Rank) → is_eq (rank_cmp a b) ≡ true → a ≡ b
 rank_same a b e =
-    let first = then_equal (nat_cmp b.level a.level) (ordering_then (bool_cmp a.is_undated b.is_undated) (ordering_then (int_cmp a.deadline b.deadline) (nat_cmp a.place b.place))) e in
+    let first =
+    then_equal (nat_cmp b.level a.level)
+    (ordering_then (bool_cmp a.is_undated b.is_undated) (ordering_then (int_cmp a.deadline b.deadline) (nat_cmp a.place b.place))) e in
     let second = then_equal (bool_cmp a.is_undated b.is_undated) (ordering_then (int_cmp a.deadline b.deadline) (nat_cmp a.place b.place)) first.1 in
     let third = then_equal (int_cmp a.deadline b.deadline) (nat_cmp a.place b.place) second.1 in
-    same_parts a b (sym (nat_same b.level a.level first.0)) (bool_same a.is_undated b.is_undated second.0) (int_same a.deadline b.deadline third.0) (nat_same a.place b.place third.1)
+    same_parts a b (sym (nat_same b.level a.level first.0)) (bool_same a.is_undated b.is_undated second.0) (int_same a.deadline b.deadline third.0)
+    (nat_same a.place b.place third.1)
 
 pub rank_total : IsTotalOrder rank_cmp
-rank_total = then_total (back_total (on_total (λ (r : Rank). r.level) nat_cmp_total)) (then_total (on_total (λ (r : Rank). r.is_undated) bool_cmp_total) (then_total (on_total (λ (r : Rank). r.deadline) int_cmp_total) (on_total (λ (r : Rank). r.place) nat_cmp_total)))
+rank_total =
+    then_total (back_total (on_total (λ (r : Rank). r.level) nat_cmp_total))
+    (then_total (on_total (λ (r : Rank). r.is_undated) bool_cmp_total)
+    (then_total (on_total (λ (r : Rank). r.deadline) int_cmp_total) (on_total (λ (r : Rank). r.place) nat_cmp_total)))
 
 -- ---- of two entries the one at the smaller place has the greater rank exactly where the other goes before it
 
@@ -68,7 +75,9 @@ int_above (negsuc a) (negsuc b) = elim (cases_order a b) [
   ]
 ]
 
-due_above : (a b : Option ℤ) → is_gt (ordering_then (bool_cmp (not (is_some a)) (not (is_some b))) (ordering_then (int_cmp (unwrap_or a (pos 0)) (unwrap_or b (pos 0))) Less)) ≡ is_earlier b a
+due_above : (a b : Option ℤ)
+    → is_gt (ordering_then (bool_cmp (not (is_some a)) (not (is_some b))) (ordering_then (int_cmp (unwrap_or a (pos 0)) (unwrap_or b (pos 0))) Less))
+    ≡ is_earlier b a
 due_above None None = refl
 due_above None (Some b) = refl
 due_above (Some a) None = refl
@@ -86,8 +95,13 @@ level_above a b rest = elim (cases_order a b) [
 pub rank_above : (a b : Entry) (p q : ℕ) → p < q → is_gt (rank_cmp (rank_of p a) (rank_of q b)) ≡ goes_before b a
 rank_above a b p q less =
     let place : nat_cmp p q ≡ Less = sym (nat_cmp_is p q Less less) in
-    ap (λ o. is_gt (ordering_then (nat_cmp b.level a.level) (ordering_then (bool_cmp (not (is_some a.deadline)) (not (is_some b.deadline))) (ordering_then (int_cmp (unwrap_or a.deadline (pos 0)) (unwrap_or b.deadline (pos 0))) o)))) place
-    ∙ level_above a.level b.level (ordering_then (bool_cmp (not (is_some a.deadline)) (not (is_some b.deadline))) (ordering_then (int_cmp (unwrap_or a.deadline (pos 0)) (unwrap_or b.deadline (pos 0))) Less))
+    ap (λ o. is_gt
+    (ordering_then (nat_cmp b.level a.level)
+    (ordering_then (bool_cmp (not (is_some a.deadline)) (not (is_some b.deadline)))
+    (ordering_then (int_cmp (unwrap_or a.deadline (pos 0)) (unwrap_or b.deadline (pos 0))) o)))) place
+    ∙ level_above a.level b.level
+    (ordering_then (bool_cmp (not (is_some a.deadline)) (not (is_some b.deadline)))
+    (ordering_then (int_cmp (unwrap_or a.deadline (pos 0)) (unwrap_or b.deadline (pos 0))) Less))
     ∙ ap (λ e. ltb a.level b.level || (eqb b.level a.level && e)) (due_above a.deadline b.deadline)
 
 three : (o : Ordering) → is_gt (ordering_reverse o) ≡ false → (o ≡ Equal → ⊥) → is_gt o ≡ true

@@ -1,5 +1,6 @@
 -- The place of a subject, and its entry.
-use Rattle.std.proofs.Common.{◌≡◌, ◌<◌, ◌≤◌, ℕ, ◌+◌, Bool, true, false, if◌then◌else◌, ◌⊎◌, eqb, List, [], ◌∷◌, ◌++◌, Some, None, refl, ap, sym, subst, ◌∙◌, arith, inl, inr}
+use Rattle.std.proofs.Common.{◌≡◌, ◌<◌, ◌≤◌, ℕ, ◌+◌, Bool, true, false, if◌then◌else◌, ◌⊎◌, eqb, List}
+use Rattle.std.proofs.Common.{[], ◌∷◌, ◌++◌, Some, None, refl, ap, sym, subst, ◌∙◌, arith, inl, inr}
 use Rattle.std.specs.Ordering.{nat_cmp, is_eq}
 use Rattle.std.specs.BTreeMap.{is_at}
 use Rattle.std.specs.Map.{lookup, remove_entry, values_of}
@@ -56,7 +57,8 @@ nobody_parts who e es none = elim (cases_Bool (who_eq who e.1.who)) [
 inside : (a b : ℕ) → Some a ≡ Some b → a ≡ b
 inside a b e = cc
 
-pub place_within : (who : Who) (first next place : ℕ) (es : List (ℕ × Entry)) → Rises first es next → place_of who es ≡ Some place → (first ≤ place) × (place < next)
+pub place_within : (who : Who) (first next place : ℕ) (es : List (ℕ × Entry)) → Rises first es next → place_of who es ≡ Some place
+    → (first ≤ place) × (place < next)
 place_within who first next place [] rises found = cc
 place_within who first next place (e ∷ es) rises found = elim (cases_Bool (who_eq who e.1.who)) [
   | inl here ↦
@@ -79,7 +81,8 @@ which who first next place e es rises found = elim (cases_Bool (who_eq who e.1.w
       inr (apart, there, omega (arith, within.0))
 ]
 
-pub entry_found : (who : Who) (first next place : ℕ) (es : List (ℕ × Entry)) → Rises first es next → place_of who es ≡ Some place → lookup (is_at (nat_cmp place)) es ≡ entry_of who (values_of es)
+pub entry_found : (who : Who) (first next place : ℕ) (es : List (ℕ × Entry)) → Rises first es next → place_of who es ≡ Some place
+    → lookup (is_at (nat_cmp place)) es ≡ entry_of who (values_of es)
 entry_found who first next place [] rises found = cc
 entry_found who first next place (e ∷ es) rises found = elim (which who first next place e es rises found) [
   | inl here ↦ rw (sym here.1, nat_itself e.0, here.0) refl
@@ -99,14 +102,16 @@ without_none who (e ∷ es) none = let parts = nobody_parts who e es none in rw 
 nobody_else : (who other : Who) (es : List (ℕ × Entry)) → who_eq who other ≡ true → place_of other es ≡ None → place_of who es ≡ None
 nobody_else who other es same none = subst (λ w. place_of w es ≡ None) (sym (same_who who other same)) none
 
-pub values_removed : (who : Who) (first next place : ℕ) (es : List (ℕ × Entry)) → Rises first es next → IsEachOnce es → place_of who es ≡ Some place → values_of (remove_entry (is_at (nat_cmp place)) es) ≡ without who (values_of es)
+pub values_removed : (who : Who) (first next place : ℕ) (es : List (ℕ × Entry)) → Rises first es next → IsEachOnce es → place_of who es ≡ Some place
+    → values_of (remove_entry (is_at (nat_cmp place)) es) ≡ without who (values_of es)
 values_removed who first next place [] rises once found = cc
 values_removed who first next place (e ∷ es) rises once found = elim (which who first next place e es rises found) [
   | inl here ↦ rw (sym here.1, nat_itself e.0, here.0) (sym (without_none who es (nobody_else who e.1.who es here.0 once.0)))
   | inr there ↦ rw (nat_over place e.0 there.2, there.0) (ap (λ vs. e.1 ∷ vs) (values_removed who (e.0 + 1) next place es rises.1 once.1 there.1))
 ]
 
-gone_here : (who other : Who) (e : ℕ × Entry) (es : List (ℕ × Entry)) → who_eq who e.1.who ≡ true → place_of e.1.who es ≡ None → place_of other es ≡ (if who_eq who other then None else (if who_eq other e.1.who then Some e.0 else place_of other es))
+gone_here : (who other : Who) (e : ℕ × Entry) (es : List (ℕ × Entry)) → who_eq who e.1.who ≡ true → place_of e.1.who es ≡ None
+    → place_of other es ≡ (if who_eq who other then None else (if who_eq other e.1.who then Some e.0 else place_of other es))
 gone_here who other e es here none = elim (cases_Bool (who_eq who other)) [
   | inl same ↦ rw same (nobody_else other who es (who_back who other true same) (nobody_else who e.1.who es here none))
   | inr apart ↦
@@ -115,7 +120,8 @@ gone_here who other e es here none = elim (cases_Bool (who_eq who other)) [
 ]
 
 gone_there : (who other : Who) (e : ℕ × Entry) (es : List (ℕ × Entry)) → who_eq who e.1.who ≡ false →
-    (if who_eq other e.1.who then Some e.0 else (if who_eq who other then None else place_of other es)) ≡ (if who_eq who other then None else (if who_eq other e.1.who then Some e.0 else place_of other es))
+    (if who_eq other e.1.who then Some e.0 else (if who_eq who other then None else place_of other es))
+    ≡ (if who_eq who other then None else (if who_eq other e.1.who then Some e.0 else place_of other es))
 gone_there who other e es there = elim (cases_Bool (who_eq who other)) [
   | inl same ↦
       let away : who_eq other e.1.who ≡ false = subst (λ w. who_eq w e.1.who ≡ false) (same_who who other same) there in
@@ -131,17 +137,21 @@ places_removed who other first next place (e ∷ es) rises once found = elim (wh
   | inr there ↦ rw (nat_over place e.0 there.2, places_removed who other (e.0 + 1) next place es rises.1 once.1 there.1) (gone_there who other e es there.0)
 ]
 
-pub once_removed : (who : Who) (first next place : ℕ) (es : List (ℕ × Entry)) → Rises first es next → IsEachOnce es → place_of who es ≡ Some place → IsEachOnce (remove_entry (is_at (nat_cmp place)) es)
+pub once_removed : (who : Who) (first next place : ℕ) (es : List (ℕ × Entry)) → Rises first es next → IsEachOnce es → place_of who es ≡ Some place
+    → IsEachOnce (remove_entry (is_at (nat_cmp place)) es)
 once_removed who first next place [] rises once found = cc
 once_removed who first next place (e ∷ es) rises once found = elim (which who first next place e es rises found) [
   | inl here ↦ rw (sym here.1, nat_itself e.0) once.1
-  | inr there ↦ rw (nat_over place e.0 there.2)
-      (places_removed who e.1.who (e.0 + 1) next place es rises.1 once.1 there.1 ∙ ap (λ b. if b then None else place_of e.1.who es) there.0 ∙ once.0, once_removed who (e.0 + 1) next place es rises.1 once.1 there.1)
+  | inr there ↦ rw (nat_over place e.0 there.2) (
+    places_removed who e.1.who (e.0 + 1) next place es rises.1 once.1 there.1 ∙ ap (λ b. if b then None else place_of e.1.who es) there.0 ∙ once.0,
+    once_removed who (e.0 + 1) next place es rises.1 once.1 there.1,
+  )
 ]
 
 -- ---- with one subject more at the end
 
-pub place_last : (other : Who) (place : ℕ) (entry : Entry) (es : List (ℕ × Entry)) → place_of entry.who es ≡ None → place_of other (es ++ (place, entry) ∷ []) ≡ (if who_eq other entry.who then Some place else place_of other es)
+pub place_last : (other : Who) (place : ℕ) (entry : Entry) (es : List (ℕ × Entry)) → place_of entry.who es ≡ None
+    → place_of other (es ++ (place, entry) ∷ []) ≡ (if who_eq other entry.who then Some place else place_of other es)
 place_last other place entry [] none = refl
 place_last other place entry (e ∷ es) none =
     let parts = nobody_parts entry.who e es none in
@@ -155,5 +165,7 @@ place_last other place entry (e ∷ es) none =
 pub once_last : (place : ℕ) (entry : Entry) (es : List (ℕ × Entry)) → IsEachOnce es → place_of entry.who es ≡ None → IsEachOnce (es ++ (place, entry) ∷ [])
 once_last place entry [] once none = (refl, tt)
 once_last place entry (e ∷ es) once none =
-    let parts = nobody_parts entry.who e es none in
-    (place_last e.1.who place entry es parts.1 ∙ ap (λ b. if b then Some place else place_of e.1.who es) (who_back entry.who e.1.who false parts.0) ∙ once.0, once_last place entry es once.1 parts.1)
+    let parts = nobody_parts entry.who e es none in (
+      place_last e.1.who place entry es parts.1 ∙ ap (λ b. if b then Some place else place_of e.1.who es) (who_back entry.who e.1.who false parts.0) ∙ once.0,
+      once_last place entry es once.1 parts.1,
+    )

@@ -1,4 +1,5 @@
-//! What the facts say of the list that they stand for, as a call that does nothing: its contract is theorems on the definitions.
+//! What the facts say of the list that they stand for, as a call that does nothing: its contract is
+//! theorems on the definitions.
 ghost use Rattle.std.specs.Prelude.{◌≡◌, ◌↔◌, ℕ, IsTrue, List};
 ghost use Rattle.trace_text.specs.declared.events.Event.{Event};
 ghost use Rattle.trace_text.specs.Queue.{TraceLine, see, nothing_seen, seen_from, last_from};
@@ -7,7 +8,8 @@ ghost use Rattle.trace_lines.specs.Seen.{seen_of, see_line, with_line, is_formed
 
 use trace_text::tests_tell;
 
-/// Each fact that is kept of a list is what the definition on lists says, and whether a list stays formed shows in the facts.
+/// Each fact that is kept of a list is what the definition on lists says, and whether a list stays
+/// formed shows in the facts.
 pub fn facts_tell()
     ensures tick { (lines : List TraceLine) → (seen_of lines).tick ≡ last_from 0 lines }
     ensures runner { (lines : List TraceLine)

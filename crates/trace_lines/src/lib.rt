@@ -1,4 +1,5 @@
-//! What is kept of a list of trace lines: as many facts as there are tasks and protected objects, and no lines.
+//! What is kept of a list of trace lines: as many facts as there are tasks and protected objects,
+//! and no lines.
 #![tactic(auto)]
 
 mod laws;

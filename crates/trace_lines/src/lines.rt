@@ -1,8 +1,10 @@
 //! A list of lines, of which facts are kept.
 ghost use Rattle.std.specs.Prelude.{◌≡◌, ◌↔◌, true, false, ◌&&◌, List, OnOk, OnErr};
 ghost use Rattle.trace_text.specs.Queue.{TraceLine, entry_of, head_of, who_of};
-ghost use Rattle.trace_text.specs.Laws.{Formed, level_of, is_known, is_ready_formed, is_subject_formed};
-ghost use Rattle.trace_lines.specs.Seen.{nothing_kept, see_line, StandsFor, with_line, level_in, deadline_in, shape_of, is_formed_after, IsFault};
+ghost use Rattle.trace_text.specs.Laws.{Formed, level_of, is_known};
+ghost use Rattle.trace_text.specs.Laws.{is_ready_formed, is_subject_formed};
+ghost use Rattle.trace_lines.specs.Seen.{nothing_kept, see_line, StandsFor, with_line, level_in};
+ghost use Rattle.trace_lines.specs.Seen.{deadline_in, shape_of, is_formed_after, IsFault};
 
 use crate::laws::facts_tell;
 use crate::levels;
@@ -74,8 +76,8 @@ impl Lines {
     ///
     /// # Errors
     ///
-    /// `Malformed` exactly where the list that this stands for is formed and does not stay so with this line.
-    /// An error changes nothing.
+    /// `Malformed` exactly where the list that this stands for is formed and does not stay so with
+    /// this line. An error changes nothing.
     pub fn take(&mut self, now: u64, event: &Event) -> Result<(), OrMemory<Malformed>>
         ensures malformed { (lines : List TraceLine) → Formed lines → StandsFor self.old lines
             → (IsFault result ↔ (Formed (with_line lines now event.now) → ⊥)) }
@@ -264,7 +266,8 @@ impl Lines {
         self.runner
     }
 
-    /// Who stands first in the ready queue: of the highest level, then of the earliest deadline, then of the smallest place.
+    /// Who stands first in the ready queue: of the highest level, then of the earliest deadline,
+    /// then of the smallest place.
     pub fn head(&self) -> Option<Who>
         ensures { result ≡ who_of (head_of self.now.queue) }
     {

@@ -1,5 +1,6 @@
-//! The ready queue that lines tell of: a list of entries, of which one with a smaller place stands before one with a greater.
-//! An entry is found by its subject, and the first to be chosen by its rank, so that no call passes over the list.
+//! The ready queue that lines tell of: a list of entries, of which one with a smaller place stands
+//! before one with a greater. An entry is found by its subject, and the first to be chosen by its
+//! rank, so that no call passes over the list.
 ghost use Rattle.std.specs.Prelude.{◌≡◌, ℕ, [], cond, IfOk, OnOk, OnErr, Some, None};
 ghost use Rattle.std.specs.Ordering.{nat_cmp};
 ghost use Rattle.std.specs.BTreeMap.{get, is_at, insert_entry};
@@ -7,7 +8,8 @@ ghost use Rattle.std.specs.Map.{lookup};
 ghost use Rattle.trace_text.specs.Queue.{who_eq, without, entry_of, placed, head_of};
 ghost use Rattle.trace_text.specs.declared.events.QueueEnd.TheVariants.{Head, Tail};
 ghost use Rattle.trace_lines.specs.declared.ranks.Rank.{Rank};
-ghost use Rattle.trace_lines.specs.Places.{subject_number, rank_cmp, rank_of, entry_at, without_place, unranked};
+ghost use Rattle.trace_lines.specs.Places.{subject_number, rank_cmp, rank_of};
+ghost use Rattle.trace_lines.specs.Places.{entry_at, without_place, unranked};
 
 use crate::ranks::{Rank, rank_of};
 use ann_base::NoMemory;
@@ -86,7 +88,8 @@ impl ReadyQueue {
         }
     }
 
-    /// The entry before which no other goes; of several such the one with the smallest place (D.2.1, D.2.6).
+    /// The entry before which no other goes; of several such the one with the smallest place
+    /// (D.2.1, D.2.6).
     pub fn head(&self) -> Option<Entry>
         ensures { result ≡ head_of self.now }
     {
@@ -104,7 +107,8 @@ impl ReadyQueue {
         take_out(&mut self.entries, &mut self.ranks, place);
     }
 
-    /// Places a subject at an end, and nowhere else. A queue that has used up its places answers as one that wants memory.
+    /// Places a subject at an end, and nowhere else. A queue that has used up its places answers as
+    /// one that wants memory.
     pub fn place(&mut self, end: QueueEnd, entry: Entry) -> Result<(), NoMemory>
         ensures placed { OnOk result (self.new ≡ placed end entry self.old) }
         ensures unchanged { OnErr result (self.new ≡ self.old) }

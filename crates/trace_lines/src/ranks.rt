@@ -3,15 +3,17 @@ ghost use Rattle.std.specs.Prelude.{◌≡◌};
 ghost use Rattle.std.proofs.Common.{rules};
 ghost use Rattle.std.specs.Cmp.{partial_order_from_own_ties};
 ghost use Rattle.std.specs.Cmp.Rules.{comparing};
-ghost use Rattle.std.specs.Ordering.{nat_cmp, int_cmp, bool_cmp, on, flip_args, then_cmp, as_partial_cmp};
+ghost use Rattle.std.specs.Ordering.{nat_cmp, int_cmp, bool_cmp, on};
+ghost use Rattle.std.specs.Ordering.{flip_args, then_cmp, as_partial_cmp};
 ghost use Rattle.trace_lines.specs.Places.{rank_of};
 
 use ann_base::{Level, Moment};
 use std::cmp::Ordering;
 use trace_text::Entry;
 
-/// Where an entry stands among those that are chosen: the least rank is chosen first. A higher level goes before a lower
-/// one, on a level an earlier deadline before a later one and that before none, and then a smaller place (D.2.1, D.2.6).
+/// Where an entry stands among those that are chosen: the least rank is chosen first. A higher
+/// level goes before a lower one, on a level an earlier deadline before a later one and that before
+/// none, and then a smaller place (D.2.1, D.2.6).
 #[derive(Clone, Copy, PartialEq, Eq)]
 pub struct Rank {
     pub level: Level,

@@ -1,5 +1,6 @@
 -- The text of a printable line is read as this line.
-use Rattle.std.proofs.Common.{◌≡◌, ℕ, ◌+◌, ◌-◌, ◌<◌, ◌^◌, true, false, eqb, List, [], ◌∷◌, ◌++◌, length, get_or, Some, decimal, codes, refl, ap, sym, ◌∙◌, arith}
+use Rattle.std.proofs.Common.{◌≡◌, ℕ, ◌+◌, ◌-◌, ◌<◌, ◌^◌, true, false, eqb, List, [], ◌∷◌, ◌++◌}
+use Rattle.std.proofs.Common.{length, get_or, Some, decimal, codes, refl, ap, sym, ◌∙◌, arith}
 use Rattle.std.specs.Fmt.{signed_decimal}
 use Rattle.std.proofs.lemmas.List.{get_or_at}
 use Rattle.std.proofs.Math.Seq.{take-append_seam}
@@ -21,16 +22,22 @@ use Rattle.trace_text.specs.declared.events.Leaves.{Leaves}
 use Rattle.trace_text.specs.declared.events.Leaves.TheVariants as leaves
 use Rattle.trace_text.specs.declared.events.Ended.TheVariants as ended_variants
 use Rattle.trace_text.specs.declared.events.Event.{Event}
-use Rattle.trace_text.specs.declared.events.Event.TheVariants.{New, Ready, Block, Run, Idle, Base, Deadline, Quantum, Done, Raise, Put, Call, Start, Finish, Cancel, Gone, Enter, Exit, Held, Abort, Trigger, Leave, Init, Final, Left, Replace, Release, Serve, Served, Interrupt, Port, Mask, Unmask, Masked, End}
+use Rattle.trace_text.specs.declared.events.Event.TheVariants.{New, Ready, Block, Run, Idle, Base, Deadline, Quantum, Done, Raise, Put, Call}
+use Rattle.trace_text.specs.declared.events.Event.TheVariants.{Start, Finish, Cancel, Gone, Enter, Exit, Held, Abort, Trigger, Leave, Init, Final}
+use Rattle.trace_text.specs.declared.events.Event.TheVariants.{Left, Replace, Release, Serve, Served, Interrupt, Port, Mask, Unmask, Masked, End}
 use Rattle.trace_text.specs.declared.words.Word.{Word}
 use Rattle.trace_text.specs.declared.words.Word.TheVariants as word
 use Rattle.trace_reading.specs.declared.read.Lead.TheVariants as lead
-use Rattle.trace_text.specs.Text.{IsPrintable, IsWithin, IsWhoWithin, IsPrintableLine, words_of, spaced, line_text, task_text, object_text, who_text, queue_end_text, waits_text, mode_text, leaves_text, entry_text, finished_text, deadline_words}
+use Rattle.trace_text.specs.Text.{IsPrintable, IsWithin, IsWhoWithin, IsPrintableLine, words_of, spaced, line_text, task_text, object_text}
+use Rattle.trace_text.specs.Text.{who_text, queue_end_text, waits_text, mode_text, leaves_text, entry_text, finished_text, deadline_words}
 use Rattle.trace_text.specs.Words.{word_text}
 use Rattle.trace_fields.specs.Spelt.{word_in, waits_in, mode_in, leaves_in, queue_end_in}
-use Rattle.trace_fields.specs.Reading.{field, short_in, long_in, moment_in, value_in, task_in, object_in, name_in, text_in, exception_in, finished_in, entry_in, handler_in}
+use Rattle.trace_fields.specs.Reading.{field, short_in, long_in, moment_in, value_in, task_in, object_in}
+use Rattle.trace_fields.specs.Reading.{name_in, text_in, exception_in, finished_in, entry_in, handler_in}
 use Rattle.trace_reading.specs.Lines.{lead_in, created_in, who_in, task_line_in, agent_line_in, object_line_in, event_in, moment_and_event_in, line_in}
-use Rattle.trace_fields.proofs.FieldsAgain.{has_no, begins, front_again, rest_again, field_again, last_again, decimal_none, number_again, short_again, long_again, moment_again, value_again, task_again, object_again, task_none, object_none, name_again, text_again, exception_again, finished_again, name_none, entry_again, handler_again, entry_none, deadline_again, deadline_begins}
+use Rattle.trace_fields.proofs.FieldsAgain.{has_no, begins, front_again, rest_again, field_again, last_again, decimal_none, number_again, short_again}
+use Rattle.trace_fields.proofs.FieldsAgain.{long_again, moment_again, value_again, task_again, object_again, task_none, object_none, name_again, text_again}
+use Rattle.trace_fields.proofs.FieldsAgain.{exception_again, finished_again, name_none, entry_again, handler_again, entry_none, deadline_again, deadline_begins}
 
 pub queue_end_again : (end : QueueEnd) → queue_end_in (queue_end_text end) ≡ Some end
 queue_end_again Head = refl
@@ -146,36 +153,47 @@ lead_object_again : (object : ObjectNo) → object.0 < 2 ^ 32 → lead_in (objec
 lead_object_again object h = rw (object_again object h) refl
 
 -- what a task does is read as this
-task_line_again : (task : TaskNo) (w : Word) (rest : List ℕ) → task.0 < 2 ^ 32 → begins 32 rest ≡ true → event_in (32 ∷ (task_text task ++ (32 ∷ (word_text w ++ rest)))) ≡ task_line_in task w rest
+task_line_again : (task : TaskNo) (w : Word) (rest : List ℕ) → task.0 < 2 ^ 32 → begins 32 rest ≡ true
+    → event_in (32 ∷ (task_text task ++ (32 ∷ (word_text w ++ rest)))) ≡ task_line_in task w rest
 task_line_again task w rest h b =
     rw (field_again lead_in (task_text task) (32 ∷ (word_text w ++ rest)) (lead.Task task) (task_none 32 task (omega arith) h) refl (lead_task_again task h))
     (rw (event_word_again w rest b) refl)
 
-object_line_again : (object : ObjectNo) (w : Word) (rest : List ℕ) → object.0 < 2 ^ 32 → begins 32 rest ≡ true → event_in (32 ∷ (object_text object ++ (32 ∷ (word_text w ++ rest)))) ≡ object_line_in object w rest
+object_line_again : (object : ObjectNo) (w : Word) (rest : List ℕ) → object.0 < 2 ^ 32 → begins 32 rest ≡ true
+    → event_in (32 ∷ (object_text object ++ (32 ∷ (word_text w ++ rest)))) ≡ object_line_in object w rest
 object_line_again object w rest h b =
-    rw (field_again lead_in (object_text object) (32 ∷ (word_text w ++ rest)) (lead.Object object) (object_none 32 object (omega arith) h) refl (lead_object_again object h))
+    rw (field_again lead_in (object_text object) (32 ∷ (word_text w ++ rest)) (lead.Object object) (object_none 32 object (omega arith) h) refl
+    (lead_object_again object h))
     (rw (event_word_again w rest b) refl)
 
 agent_line_again : (w : Word) (rest : List ℕ) → begins 32 rest ≡ true → event_in (32 ∷ (codes "agent" ++ (32 ∷ (word_text w ++ rest)))) ≡ agent_line_in w rest
 agent_line_again w rest b = rw (event_word_again w rest b) refl
 
 -- and so is what a task or the agent does
-who_line_again : (who : Who) (w : Word) (rest : List ℕ) → IsWhoWithin who → begins 32 rest ≡ true → ((task : TaskNo) → task_line_in task w rest ≡ who_in (subject.Task task) w rest) → agent_line_in w rest ≡ who_in subject.Agent w rest
+who_line_again : (who : Who) (w : Word) (rest : List ℕ) → IsWhoWithin who → begins 32 rest ≡ true
+    → ((task : TaskNo) → task_line_in task w rest ≡ who_in (subject.Task task) w rest) → agent_line_in w rest ≡ who_in subject.Agent w rest
     → event_in (32 ∷ (who_text who ++ (32 ∷ (word_text w ++ rest)))) ≡ who_in who w rest
 who_line_again (subject.Task task) w rest h b t a = task_line_again task w rest h b ∙ t task
 who_line_again subject.Agent w rest h b t a = agent_line_again w rest b ∙ a
 
-created_again : (what : Created) (name : List ℕ) (level : ℕ) → IsWithin (New what name level) → IsPrintable (New what name level) → created_in what (spaced (name ∷ decimal level ∷ [])) ≡ Some (New what name level)
+created_again : (what : Created) (name : List ℕ) (level : ℕ) → IsWithin (New what name level) → IsPrintable (New what name level)
+    → created_in what (spaced (name ∷ decimal level ∷ [])) ≡ Some (New what name level)
 created_again what name level w p =
     rw (field_again name_in name (spaced (decimal level ∷ [])) name (name_none false name p) refl (name_again name p w.1))
     (rw (last_again short_in (decimal level) level (short_again level w.2)) refl)
 
 pub event_again : (event : Event) → IsWithin event → IsPrintable event → event_in (spaced (words_of event)) ≡ Some event
-event_again (New (created.Task task) name level) w p = task_line_again task word.New (spaced (name ∷ decimal level ∷ [])) w.0 refl ∙ created_again (created.Task task) name level w p
-event_again (New (created.Object object) name level) w p = object_line_again object word.New (spaced (name ∷ decimal level ∷ [])) w.0 refl ∙ created_again (created.Object object) name level w p
+event_again (New (created.Task task) name level) w p =
+    task_line_again task word.New (spaced (name ∷ decimal level ∷ [])) w.0 refl ∙ created_again (created.Task task) name level w p
+event_again (New (created.Object object) name level) w p =
+    object_line_again object word.New (spaced (name ∷ decimal level ∷ [])) w.0 refl ∙ created_again (created.Object object) name level w p
 event_again (Ready who level end deadline) w p =
     who_line_again who word.Ready (32 ∷ (decimal level ++ (32 ∷ (queue_end_text end ++ spaced (deadline_words deadline))))) w.0 refl (λ _. refl) refl
-    ∙ rw (field_again short_in (decimal level) (32 ∷ (queue_end_text end ++ spaced (deadline_words deadline))) level (decimal_none 32 level (omega arith) (omega (arith, w.1))) refl (short_again level w.1)) (rw (field_again queue_end_in (queue_end_text end) (spaced (deadline_words deadline)) end (queue_end_none end) (deadline_begins deadline) (queue_end_again end)) (rw (deadline_again deadline w.2) refl))
+    ∙ rw (field_again short_in (decimal level) (32 ∷ (queue_end_text end ++ spaced (deadline_words deadline))) level
+    (decimal_none 32 level (omega arith) (omega (arith, w.1))) refl (short_again level w.1))
+    (rw (field_again queue_end_in (queue_end_text end) (spaced (deadline_words deadline)) end (queue_end_none end) (deadline_begins deadline)
+    (queue_end_again end))
+    (rw (deadline_again deadline w.2) refl))
 event_again (Block who why) w p =
     who_line_again who word.Block (spaced (waits_text why ∷ [])) w refl (λ _. refl) refl
     ∙ rw (last_again waits_in (waits_text why) why (waits_again why)) refl
@@ -197,13 +215,18 @@ event_again (Put who text) w p =
     ∙ rw (last_again text_in (text) text (text_again text p)) refl
 event_again (Call task call entry priority) w p =
     task_line_again task word.Call (spaced (decimal call.0 ∷ entry_text entry ∷ decimal priority ∷ [])) w.0 refl
-    ∙ rw (field_again long_in (decimal call.0) (spaced (entry_text entry ∷ decimal priority ∷ [])) call.0 (decimal_none 32 call.0 (omega arith) (omega (arith, w.1))) refl (long_again call.0 w.1)) (rw (field_again entry_in (entry_text entry) (spaced (decimal priority ∷ [])) entry (entry_none entry w.2 p) refl (entry_again entry w.2 p)) (rw (last_again short_in (decimal priority) priority (short_again priority w.3)) refl))
+    ∙ rw (field_again long_in (decimal call.0) (spaced (entry_text entry ∷ decimal priority ∷ [])) call.0
+    (decimal_none 32 call.0 (omega arith) (omega (arith, w.1))) refl (long_again call.0 w.1))
+    (rw (field_again entry_in (entry_text entry) (spaced (decimal priority ∷ [])) entry (entry_none entry w.2 p) refl (entry_again entry w.2 p))
+    (rw (last_again short_in (decimal priority) priority (short_again priority w.3)) refl))
 event_again (Start who call) w p =
     who_line_again who word.Start (spaced (decimal call.0 ∷ [])) w.0 refl (λ _. refl) refl
     ∙ rw (last_again long_in (decimal call.0) call.0 (long_again call.0 w.1)) refl
 event_again (Finish who call how) w p =
     who_line_again who word.Finish (spaced (decimal call.0 ∷ finished_text how ∷ [])) w.0 refl (λ _. refl) refl
-    ∙ rw (field_again long_in (decimal call.0) (spaced (finished_text how ∷ [])) call.0 (decimal_none 32 call.0 (omega arith) (omega (arith, w.1))) refl (long_again call.0 w.1)) (rw (last_again finished_in (finished_text how) how (finished_again how w.2 p)) refl)
+    ∙ rw (field_again long_in (decimal call.0) (spaced (finished_text how ∷ [])) call.0 (decimal_none 32 call.0 (omega arith) (omega (arith, w.1))) refl
+    (long_again call.0 w.1))
+    (rw (last_again finished_in (finished_text how) how (finished_again how w.2 p)) refl)
 event_again (Cancel task call) w p =
     task_line_again task word.Cancel (spaced (decimal call.0 ∷ [])) w.0 refl
     ∙ rw (last_again long_in (decimal call.0) call.0 (long_again call.0 w.1)) refl
@@ -212,23 +235,33 @@ event_again (Gone task call) w p =
     ∙ rw (last_again long_in (decimal call.0) call.0 (long_again call.0 w.1)) refl
 event_again (Enter who object m) w p =
     who_line_again who word.Enter (spaced (object_text object ∷ mode_text m ∷ [])) w.0 refl (λ _. refl) refl
-    ∙ rw (field_again object_in (object_text object) (spaced (mode_text m ∷ [])) object (object_none 32 object (omega arith) w.1) refl (object_again object w.1)) (rw (last_again mode_in (mode_text m) m (mode_again m)) refl)
+    ∙ rw
+    (field_again object_in (object_text object) (spaced (mode_text m ∷ [])) object (object_none 32 object (omega arith) w.1) refl (object_again object w.1))
+    (rw (last_again mode_in (mode_text m) m (mode_again m)) refl)
 event_again (Exit who object) w p =
     who_line_again who word.Exit (spaced (object_text object ∷ [])) w.0 refl (λ _. refl) refl
     ∙ rw (last_again object_in (object_text object) object (object_again object w.1)) refl
 event_again (Held who object m) w p =
     who_line_again who word.Held (spaced (object_text object ∷ mode_text m ∷ [])) w.0 refl (λ _. refl) refl
-    ∙ rw (field_again object_in (object_text object) (spaced (mode_text m ∷ [])) object (object_none 32 object (omega arith) w.1) refl (object_again object w.1)) (rw (last_again mode_in (mode_text m) m (mode_again m)) refl)
+    ∙ rw
+    (field_again object_in (object_text object) (spaced (mode_text m ∷ [])) object (object_none 32 object (omega arith) w.1) refl (object_again object w.1))
+    (rw (last_again mode_in (mode_text m) m (mode_again m)) refl)
 event_again (Abort task victim) w p =
     task_line_again task word.Abort (spaced (task_text victim ∷ [])) w.0 refl
     ∙ rw (last_again task_in (task_text victim) victim (task_again victim w.1)) refl
 event_again (Trigger task) w p = task_line_again task word.Trigger ([]) w refl
 event_again (Leave who region how) w p =
     who_line_again who word.Leave (spaced (decimal region.0 ∷ leaves_text how ∷ [])) w.0 refl (λ _. refl) refl
-    ∙ rw (field_again long_in (decimal region.0) (spaced (leaves_text how ∷ [])) region.0 (decimal_none 32 region.0 (omega arith) (omega (arith, w.1))) refl (long_again region.0 w.1)) (rw (last_again leaves_in (leaves_text how) how (leaves_again how)) refl)
+    ∙ rw (field_again long_in (decimal region.0) (spaced (leaves_text how ∷ [])) region.0 (decimal_none 32 region.0 (omega arith) (omega (arith, w.1))) refl
+    (long_again region.0 w.1))
+    (rw (last_again leaves_in (leaves_text how) how (leaves_again how)) refl)
 event_again (Init who object region name) w p =
     who_line_again who word.Init (spaced (decimal object ∷ decimal region.0 ∷ name ∷ [])) w.0 refl (λ _. refl) refl
-    ∙ rw (field_again long_in (decimal object) (spaced (decimal region.0 ∷ name ∷ [])) object (decimal_none 32 object (omega arith) (omega (arith, w.1))) refl (long_again object w.1)) (rw (field_again long_in (decimal region.0) (spaced (name ∷ [])) region.0 (decimal_none 32 region.0 (omega arith) (omega (arith, w.2))) refl (long_again region.0 w.2)) (rw (last_again name_in (name) name (name_again name p w.3)) refl))
+    ∙ rw (field_again long_in (decimal object) (spaced (decimal region.0 ∷ name ∷ [])) object (decimal_none 32 object (omega arith) (omega (arith, w.1))) refl
+    (long_again object w.1))
+    (rw (field_again long_in (decimal region.0) (spaced (name ∷ [])) region.0 (decimal_none 32 region.0 (omega arith) (omega (arith, w.2))) refl
+    (long_again region.0 w.2))
+    (rw (last_again name_in (name) name (name_again name p w.3)) refl))
 event_again (Final who object) w p =
     who_line_again who word.Final (spaced (decimal object ∷ [])) w.0 refl (λ _. refl) refl
     ∙ rw (last_again long_in (decimal object) object (long_again object w.1)) refl
@@ -239,12 +272,16 @@ event_again (Replace who object) w p =
     who_line_again who word.Replace (spaced (decimal object ∷ [])) w.0 refl (λ _. refl) refl
     ∙ rw (last_again long_in (decimal object) object (long_again object w.1)) refl
 event_again (Release release object handler) w p =
-    rw (field_again long_in (decimal release) (spaced ((object_text object ++ 46 ∷ handler) ∷ [])) release (decimal_none 32 release (omega arith) (omega (arith, w.0))) refl (long_again release w.0)) (rw (last_again handler_in (object_text object ++ 46 ∷ handler) (object, handler) (handler_again object handler w.1 w.2 p)) refl)
+    rw (field_again long_in (decimal release) (spaced ((object_text object ++ 46 ∷ handler) ∷ [])) release
+    (decimal_none 32 release (omega arith) (omega (arith, w.0))) refl (long_again release w.0))
+    (rw (last_again handler_in (object_text object ++ 46 ∷ handler) (object, handler) (handler_again object handler w.1 w.2 p)) refl)
 event_again (Serve release) w p = rw (last_again long_in (decimal release) release (long_again release w)) refl
 event_again (Served release) w p = rw (last_again long_in (decimal release) release (long_again release w)) refl
 event_again (Interrupt number) w p = rw (last_again short_in (decimal number) number (short_again number w)) refl
 event_again (Port number value) w p =
-    rw (field_again short_in (decimal number) (spaced (signed_decimal value ∷ [])) number (decimal_none 32 number (omega arith) (omega (arith, w.0))) refl (short_again number w.0)) (rw (last_again value_in (signed_decimal value) value (value_again value w.1)) refl)
+    rw (field_again short_in (decimal number) (spaced (signed_decimal value ∷ [])) number (decimal_none 32 number (omega arith) (omega (arith, w.0))) refl
+    (short_again number w.0))
+    (rw (last_again value_in (signed_decimal value) value (value_again value w.1)) refl)
 event_again (Mask number) w p = rw (last_again short_in (decimal number) number (short_again number w)) refl
 event_again (Unmask number) w p = rw (last_again short_in (decimal number) number (short_again number w)) refl
 event_again (Masked number) w p = rw (last_again short_in (decimal number) number (short_again number w)) refl
@@ -273,4 +310,9 @@ line_again tick event h =
     let none : has_no 32 (decimal tick) ≡ true = decimal_none 32 tick (omega arith) h.tick_fits in
     let starts : begins 32 words ≡ true = spaced_begins (words_of event) in
     ap line_in (sym (append_assoc (decimal tick) words (10 ∷ []))) ∙ feed_again (decimal tick ++ words)
-    ∙ rw (front_again 32 (decimal tick) words none starts, rest_again 32 (decimal tick) words none starts, number_again 18446744073709551615 tick (omega (arith, h.tick_fits)) h.tick_fits, event_again event h.within h.printable) refl
+    ∙ rw (
+      front_again 32 (decimal tick) words none starts,
+      rest_again 32 (decimal tick) words none starts,
+      number_again 18446744073709551615 tick (omega (arith, h.tick_fits)) h.tick_fits,
+      event_again event h.within h.printable,
+    ) refl

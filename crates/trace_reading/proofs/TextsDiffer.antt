@@ -19,8 +19,12 @@ use Rattle.trace_text.specs.declared.events.Leaves.TheVariants as leaves
 use Rattle.trace_text.specs.declared.events.Ended.{Ended}
 use Rattle.trace_text.specs.declared.events.Ended.TheVariants as ended_variants
 use Rattle.trace_text.specs.declared.events.Event.{Event}
-use Rattle.trace_text.specs.declared.events.Event.TheVariants.{New, Ready, Block, Run, Idle, Base, Deadline, Quantum, Done, Raise, Put, Call, Start, Finish, Cancel, Gone, Enter, Exit, Held, Abort, Trigger, Leave, Init, Final, Left, Replace, Release, Serve, Served, Interrupt, Port, Mask, Unmask, Masked, End}
-use Rattle.trace_text.specs.Text.{IsPrintable, IsWithin, IsWhoWithin, IsCreatedWithin, IsEndedPrintable, IsPrintableLine, words_of, spaced, line_text, task_text, object_text, who_text, created_text, queue_end_text, waits_text, mode_text, leaves_text, entry_text, finished_text, deadline_words, ended_words}
+use Rattle.trace_text.specs.declared.events.Event.TheVariants.{New, Ready, Block, Run, Idle, Base, Deadline, Quantum, Done, Raise, Put, Call}
+use Rattle.trace_text.specs.declared.events.Event.TheVariants.{Start, Finish, Cancel, Gone, Enter, Exit, Held, Abort, Trigger, Leave, Init, Final}
+use Rattle.trace_text.specs.declared.events.Event.TheVariants.{Left, Replace, Release, Serve, Served, Interrupt, Port, Mask, Unmask, Masked, End}
+use Rattle.trace_text.specs.Text.{IsPrintable, IsWithin, IsWhoWithin, IsCreatedWithin, IsEndedPrintable, IsPrintableLine}
+use Rattle.trace_text.specs.Text.{words_of, spaced, line_text, task_text, object_text, who_text, created_text, queue_end_text}
+use Rattle.trace_text.specs.Text.{waits_text, mode_text, leaves_text, entry_text, finished_text, deadline_words, ended_words}
 use Rattle.std.proofs.Common.{unwrap_or, pos, negsuc, suc, ℤ, FitsSigned, w32, w64}
 use Rattle.std.specs.Int.Signed.{mag}
 use Rattle.std.specs.List.{list_all}
@@ -138,37 +142,99 @@ ended_free ended_variants.Stuck p = refl
 ended_free ended_variants.Bound p = refl
 
 words_free : (event : Event) → IsWithin event → IsPrintable event → has_no 10 (spaced (words_of event)) ≡ true
-words_free (New what name level) w p = with (created_text what) (codes "new" ∷ name ∷ decimal level ∷ []) (created_free what w.0) (with (codes "new") (name ∷ decimal level ∷ []) (refl) (with (name) (decimal level ∷ []) (name_free false name p) (with (decimal level) [] (short_free level w.2) refl)))
-words_free (Ready who level end deadline) w p = with (who_text who) (codes "ready" ∷ decimal level ∷ queue_end_text end ∷ deadline_words deadline) (who_free who w.0) (with (codes "ready") (decimal level ∷ queue_end_text end ∷ deadline_words deadline) (refl) (with (decimal level) (queue_end_text end ∷ deadline_words deadline) (short_free level w.1) (with (queue_end_text end) (deadline_words deadline) (queue_end_free end) (deadline_free deadline w.2))))
-words_free (Block who why) w p = with (who_text who) (codes "block" ∷ waits_text why ∷ []) (who_free who w) (with (codes "block") (waits_text why ∷ []) (refl) (with (waits_text why) [] (waits_free why) refl))
+words_free (New what name level) w p =
+    with (created_text what) (codes "new" ∷ name ∷ decimal level ∷ []) (created_free what w.0)
+    (with (codes "new") (name ∷ decimal level ∷ []) (refl)
+    (with (name) (decimal level ∷ []) (name_free false name p) (with (decimal level) [] (short_free level w.2) refl)))
+words_free (Ready who level end deadline) w p =
+    with (who_text who) (codes "ready" ∷ decimal level ∷ queue_end_text end ∷ deadline_words deadline) (who_free who w.0)
+    (with (codes "ready") (decimal level ∷ queue_end_text end ∷ deadline_words deadline) (refl)
+    (with (decimal level) (queue_end_text end ∷ deadline_words deadline) (short_free level w.1)
+    (with (queue_end_text end) (deadline_words deadline) (queue_end_free end) (deadline_free deadline w.2))))
+words_free (Block who why) w p =
+    with (who_text who) (codes "block" ∷ waits_text why ∷ []) (who_free who w)
+    (with (codes "block") (waits_text why ∷ []) (refl) (with (waits_text why) [] (waits_free why) refl))
 words_free (Run who) w p = with (who_text who) (codes "run" ∷ []) (who_free who w) (with (codes "run") [] (refl) refl)
 words_free Idle w p = refl
-words_free (Base task level) w p = with (task_text task) (codes "base" ∷ decimal level ∷ []) (task_free task w.0) (with (codes "base") (decimal level ∷ []) (refl) (with (decimal level) [] (short_free level w.1) refl))
-words_free (Deadline task deadline) w p = with (task_text task) (codes "deadline" ∷ signed_decimal deadline ∷ []) (task_free task w.0) (with (codes "deadline") (signed_decimal deadline ∷ []) (refl) (with (signed_decimal deadline) [] (moment_free deadline w.1) refl))
+words_free (Base task level) w p =
+    with (task_text task) (codes "base" ∷ decimal level ∷ []) (task_free task w.0)
+    (with (codes "base") (decimal level ∷ []) (refl) (with (decimal level) [] (short_free level w.1) refl))
+words_free (Deadline task deadline) w p =
+    with (task_text task) (codes "deadline" ∷ signed_decimal deadline ∷ []) (task_free task w.0)
+    (with (codes "deadline") (signed_decimal deadline ∷ []) (refl) (with (signed_decimal deadline) [] (moment_free deadline w.1) refl))
 words_free (Quantum task) w p = with (task_text task) (codes "quantum" ∷ []) (task_free task w) (with (codes "quantum") [] (refl) refl)
 words_free (Done task) w p = with (task_text task) (codes "done" ∷ []) (task_free task w) (with (codes "done") [] (refl) refl)
-words_free (Raise who name) w p = with (who_text who) (codes "raise" ∷ name ∷ []) (who_free who w.0) (with (codes "raise") (name ∷ []) (refl) (with (name) [] (name_free false name p.name_is) refl))
-words_free (Put who text) w p = with (who_text who) (codes "put" ∷ text ∷ []) (who_free who w.0) (with (codes "put") (text ∷ []) (refl) (with (text) [] (text_free text p.bytes) refl))
-words_free (Call task call entry priority) w p = with (task_text task) (codes "call" ∷ decimal call.0 ∷ entry_text entry ∷ decimal priority ∷ []) (task_free task w.0) (with (codes "call") (decimal call.0 ∷ entry_text entry ∷ decimal priority ∷ []) (refl) (with (decimal call.0) (entry_text entry ∷ decimal priority ∷ []) (long_free call.0 w.1) (with (entry_text entry) (decimal priority ∷ []) (entry_free entry w.2 p) (with (decimal priority) [] (short_free priority w.3) refl))))
-words_free (Start who call) w p = with (who_text who) (codes "start" ∷ decimal call.0 ∷ []) (who_free who w.0) (with (codes "start") (decimal call.0 ∷ []) (refl) (with (decimal call.0) [] (long_free call.0 w.1) refl))
-words_free (Finish who call how) w p = with (who_text who) (codes "finish" ∷ decimal call.0 ∷ finished_text how ∷ []) (who_free who w.0) (with (codes "finish") (decimal call.0 ∷ finished_text how ∷ []) (refl) (with (decimal call.0) (finished_text how ∷ []) (long_free call.0 w.1) (with (finished_text how) [] (finished_free how p) refl)))
-words_free (Cancel task call) w p = with (task_text task) (codes "cancel" ∷ decimal call.0 ∷ []) (task_free task w.0) (with (codes "cancel") (decimal call.0 ∷ []) (refl) (with (decimal call.0) [] (long_free call.0 w.1) refl))
-words_free (Gone task call) w p = with (task_text task) (codes "gone" ∷ decimal call.0 ∷ []) (task_free task w.0) (with (codes "gone") (decimal call.0 ∷ []) (refl) (with (decimal call.0) [] (long_free call.0 w.1) refl))
-words_free (Enter who object m) w p = with (who_text who) (codes "enter" ∷ object_text object ∷ mode_text m ∷ []) (who_free who w.0) (with (codes "enter") (object_text object ∷ mode_text m ∷ []) (refl) (with (object_text object) (mode_text m ∷ []) (object_free object w.1) (with (mode_text m) [] (mode_free m) refl)))
-words_free (Exit who object) w p = with (who_text who) (codes "exit" ∷ object_text object ∷ []) (who_free who w.0) (with (codes "exit") (object_text object ∷ []) (refl) (with (object_text object) [] (object_free object w.1) refl))
-words_free (Held who object m) w p = with (who_text who) (codes "held" ∷ object_text object ∷ mode_text m ∷ []) (who_free who w.0) (with (codes "held") (object_text object ∷ mode_text m ∷ []) (refl) (with (object_text object) (mode_text m ∷ []) (object_free object w.1) (with (mode_text m) [] (mode_free m) refl)))
-words_free (Abort task victim) w p = with (task_text task) (codes "abort" ∷ task_text victim ∷ []) (task_free task w.0) (with (codes "abort") (task_text victim ∷ []) (refl) (with (task_text victim) [] (task_free victim w.1) refl))
+words_free (Raise who name) w p =
+    with (who_text who) (codes "raise" ∷ name ∷ []) (who_free who w.0)
+    (with (codes "raise") (name ∷ []) (refl) (with (name) [] (name_free false name p.name_is) refl))
+words_free (Put who text) w p =
+    with (who_text who) (codes "put" ∷ text ∷ []) (who_free who w.0) (with (codes "put") (text ∷ []) (refl) (with (text) [] (text_free text p.bytes) refl))
+words_free (Call task call entry priority) w p =
+    with (task_text task) (codes "call" ∷ decimal call.0 ∷ entry_text entry ∷ decimal priority ∷ []) (task_free task w.0)
+    (with (codes "call") (decimal call.0 ∷ entry_text entry ∷ decimal priority ∷ []) (refl)
+    (with (decimal call.0) (entry_text entry ∷ decimal priority ∷ []) (long_free call.0 w.1)
+    (with (entry_text entry) (decimal priority ∷ []) (entry_free entry w.2 p) (with (decimal priority) [] (short_free priority w.3) refl))))
+words_free (Start who call) w p =
+    with (who_text who) (codes "start" ∷ decimal call.0 ∷ []) (who_free who w.0)
+    (with (codes "start") (decimal call.0 ∷ []) (refl) (with (decimal call.0) [] (long_free call.0 w.1) refl))
+words_free (Finish who call how) w p =
+    with (who_text who) (codes "finish" ∷ decimal call.0 ∷ finished_text how ∷ []) (who_free who w.0)
+    (with (codes "finish") (decimal call.0 ∷ finished_text how ∷ []) (refl)
+    (with (decimal call.0) (finished_text how ∷ []) (long_free call.0 w.1) (with (finished_text how) [] (finished_free how p) refl)))
+words_free (Cancel task call) w p =
+    with (task_text task) (codes "cancel" ∷ decimal call.0 ∷ []) (task_free task w.0)
+    (with (codes "cancel") (decimal call.0 ∷ []) (refl) (with (decimal call.0) [] (long_free call.0 w.1) refl))
+words_free (Gone task call) w p =
+    with (task_text task) (codes "gone" ∷ decimal call.0 ∷ []) (task_free task w.0)
+    (with (codes "gone") (decimal call.0 ∷ []) (refl) (with (decimal call.0) [] (long_free call.0 w.1) refl))
+words_free (Enter who object m) w p =
+    with (who_text who) (codes "enter" ∷ object_text object ∷ mode_text m ∷ []) (who_free who w.0)
+    (with (codes "enter") (object_text object ∷ mode_text m ∷ []) (refl)
+    (with (object_text object) (mode_text m ∷ []) (object_free object w.1) (with (mode_text m) [] (mode_free m) refl)))
+words_free (Exit who object) w p =
+    with (who_text who) (codes "exit" ∷ object_text object ∷ []) (who_free who w.0)
+    (with (codes "exit") (object_text object ∷ []) (refl) (with (object_text object) [] (object_free object w.1) refl))
+words_free (Held who object m) w p =
+    with (who_text who) (codes "held" ∷ object_text object ∷ mode_text m ∷ []) (who_free who w.0)
+    (with (codes "held") (object_text object ∷ mode_text m ∷ []) (refl)
+    (with (object_text object) (mode_text m ∷ []) (object_free object w.1) (with (mode_text m) [] (mode_free m) refl)))
+words_free (Abort task victim) w p =
+    with (task_text task) (codes "abort" ∷ task_text victim ∷ []) (task_free task w.0)
+    (with (codes "abort") (task_text victim ∷ []) (refl) (with (task_text victim) [] (task_free victim w.1) refl))
 words_free (Trigger task) w p = with (task_text task) (codes "trigger" ∷ []) (task_free task w) (with (codes "trigger") [] (refl) refl)
-words_free (Leave who region how) w p = with (who_text who) (codes "leave" ∷ decimal region.0 ∷ leaves_text how ∷ []) (who_free who w.0) (with (codes "leave") (decimal region.0 ∷ leaves_text how ∷ []) (refl) (with (decimal region.0) (leaves_text how ∷ []) (long_free region.0 w.1) (with (leaves_text how) [] (leaves_free how) refl)))
-words_free (Init who object region name) w p = with (who_text who) (codes "init" ∷ decimal object ∷ decimal region.0 ∷ name ∷ []) (who_free who w.0) (with (codes "init") (decimal object ∷ decimal region.0 ∷ name ∷ []) (refl) (with (decimal object) (decimal region.0 ∷ name ∷ []) (long_free object w.1) (with (decimal region.0) (name ∷ []) (long_free region.0 w.2) (with (name) [] (name_free false name p) refl))))
-words_free (Final who object) w p = with (who_text who) (codes "final" ∷ decimal object ∷ []) (who_free who w.0) (with (codes "final") (decimal object ∷ []) (refl) (with (decimal object) [] (long_free object w.1) refl))
-words_free (Left who region) w p = with (who_text who) (codes "left" ∷ decimal region.0 ∷ []) (who_free who w.0) (with (codes "left") (decimal region.0 ∷ []) (refl) (with (decimal region.0) [] (long_free region.0 w.1) refl))
-words_free (Replace who object) w p = with (who_text who) (codes "replace" ∷ decimal object ∷ []) (who_free who w.0) (with (codes "replace") (decimal object ∷ []) (refl) (with (decimal object) [] (long_free object w.1) refl))
-words_free (Release release object handler) w p = with (codes "release") (decimal release ∷ (object_text object ++ 46 ∷ handler) ∷ []) (refl) (with (decimal release) ((object_text object ++ 46 ∷ handler) ∷ []) (long_free release w.0) (with ((object_text object ++ 46 ∷ handler)) [] (has_no-append 10 (object_text object) (46 ∷ handler) (object_free object w.1) (name_free false handler p)) refl))
-words_free (Serve release) w p = with (codes "agent") (codes "serve" ∷ decimal release ∷ []) (refl) (with (codes "serve") (decimal release ∷ []) (refl) (with (decimal release) [] (long_free release w) refl))
-words_free (Served release) w p = with (codes "agent") (codes "served" ∷ decimal release ∷ []) (refl) (with (codes "served") (decimal release ∷ []) (refl) (with (decimal release) [] (long_free release w) refl))
+words_free (Leave who region how) w p =
+    with (who_text who) (codes "leave" ∷ decimal region.0 ∷ leaves_text how ∷ []) (who_free who w.0)
+    (with (codes "leave") (decimal region.0 ∷ leaves_text how ∷ []) (refl)
+    (with (decimal region.0) (leaves_text how ∷ []) (long_free region.0 w.1) (with (leaves_text how) [] (leaves_free how) refl)))
+words_free (Init who object region name) w p =
+    with (who_text who) (codes "init" ∷ decimal object ∷ decimal region.0 ∷ name ∷ []) (who_free who w.0)
+    (with (codes "init") (decimal object ∷ decimal region.0 ∷ name ∷ []) (refl)
+    (with (decimal object) (decimal region.0 ∷ name ∷ []) (long_free object w.1)
+    (with (decimal region.0) (name ∷ []) (long_free region.0 w.2) (with (name) [] (name_free false name p) refl))))
+words_free (Final who object) w p =
+    with (who_text who) (codes "final" ∷ decimal object ∷ []) (who_free who w.0)
+    (with (codes "final") (decimal object ∷ []) (refl) (with (decimal object) [] (long_free object w.1) refl))
+words_free (Left who region) w p =
+    with (who_text who) (codes "left" ∷ decimal region.0 ∷ []) (who_free who w.0)
+    (with (codes "left") (decimal region.0 ∷ []) (refl) (with (decimal region.0) [] (long_free region.0 w.1) refl))
+words_free (Replace who object) w p =
+    with (who_text who) (codes "replace" ∷ decimal object ∷ []) (who_free who w.0)
+    (with (codes "replace") (decimal object ∷ []) (refl) (with (decimal object) [] (long_free object w.1) refl))
+words_free (Release release object handler) w p =
+    with (codes "release") (decimal release ∷ (object_text object ++ 46 ∷ handler) ∷ []) (refl)
+    (with (decimal release) ((object_text object ++ 46 ∷ handler) ∷ []) (long_free release w.0)
+    (with ((object_text object ++ 46 ∷ handler)) []
+    (has_no-append 10 (object_text object) (46 ∷ handler) (object_free object w.1) (name_free false handler p)) refl))
+words_free (Serve release) w p =
+    with (codes "agent") (codes "serve" ∷ decimal release ∷ []) (refl)
+    (with (codes "serve") (decimal release ∷ []) (refl) (with (decimal release) [] (long_free release w) refl))
+words_free (Served release) w p =
+    with (codes "agent") (codes "served" ∷ decimal release ∷ []) (refl)
+    (with (codes "served") (decimal release ∷ []) (refl) (with (decimal release) [] (long_free release w) refl))
 words_free (Interrupt number) w p = with (codes "interrupt") (decimal number ∷ []) (refl) (with (decimal number) [] (short_free number w) refl)
-words_free (Port number value) w p = with (codes "port") (decimal number ∷ signed_decimal value ∷ []) (refl) (with (decimal number) (signed_decimal value ∷ []) (short_free number w.0) (with (signed_decimal value) [] (value_free value w.1) refl))
+words_free (Port number value) w p =
+    with (codes "port") (decimal number ∷ signed_decimal value ∷ []) (refl)
+    (with (decimal number) (signed_decimal value ∷ []) (short_free number w.0) (with (signed_decimal value) [] (value_free value w.1) refl))
 words_free (Mask number) w p = with (codes "mask") (decimal number ∷ []) (refl) (with (decimal number) [] (short_free number w) refl)
 words_free (Unmask number) w p = with (codes "unmask") (decimal number ∷ []) (refl) (with (decimal number) [] (short_free number w) refl)
 words_free (Masked number) w p = with (codes "masked") (decimal number ∷ []) (refl) (with (decimal number) [] (short_free number w) refl)
@@ -191,16 +257,27 @@ unfolding front_text
 line_from_front tick event = simp append_assoc
 
 -- Two texts with a line in front begin with the same line and go on alike.
-same_front : (t u : ℕ) (e f : Event) (x y : List ℕ) → IsPrintableLine t e → IsPrintableLine u f → line_text t e ++ x ≡ line_text u f ++ y → (line_text t e ≡ line_text u f) × (x ≡ y)
+same_front : (t u : ℕ) (e f : Event) (x y : List ℕ) → IsPrintableLine t e → IsPrintableLine u f → line_text t e ++ x ≡ line_text u f ++ y
+    → (line_text t e ≡ line_text u f) × (x ≡ y)
 same_front t u e f x y h k same =
     let parts : front_text t e ++ 10 ∷ x ≡ front_text u f ++ 10 ∷ y = sym (line-parts t e x) ∙ same ∙ line-parts u f y in
-    let fronts : front_text t e ≡ front_text u f = sym (front_again 10 (front_text t e) (10 ∷ x) (front_free t e h) refl) ∙ ap (front_of 10) parts ∙ front_again 10 (front_text u f) (10 ∷ y) (front_free u f k) refl in
-    let rests : 10 ∷ x ≡ 10 ∷ y = sym (rest_again 10 (front_text t e) (10 ∷ x) (front_free t e h) refl) ∙ ap (rest_of 10) parts ∙ rest_again 10 (front_text u f) (10 ∷ y) (front_free u f k) refl in
+    let fronts : front_text t e ≡ front_text u f =
+    sym (front_again 10 (front_text t e) (10 ∷ x) (front_free t e h) refl) ∙ ap (front_of 10) parts
+    ∙ front_again 10 (front_text u f) (10 ∷ y) (front_free u f k) refl in
+    let rests : 10 ∷ x ≡ 10 ∷ y =
+    sym (rest_again 10 (front_text t e) (10 ∷ x) (front_free t e h) refl) ∙ ap (rest_of 10) parts
+    ∙ rest_again 10 (front_text u f) (10 ∷ y) (front_free u f k) refl in
     (line_from_front t e ∙ ap (λ front. front ++ 10 ∷ []) fronts ∙ sym (line_from_front u f), cc)
 
 line-some : (tick : ℕ) (event : Event) (rest : List ℕ) → IsPrintableLine tick event → line_text tick event ++ rest ≡ [] → ⊥
 line-some tick event rest h e =
-    omega (arith, ap length e, length-append (line_text tick event) rest, length-append (decimal tick) (spaced (words_of event) ++ 10 ∷ []), decimal_nonempty tick h.tick_fits)
+    omega (
+      arith,
+      ap length e,
+      length-append (line_text tick event) rest,
+      length-append (decimal tick) (spaced (words_of event) ++ 10 ∷ []),
+      decimal_nonempty tick h.tick_fits,
+    )
 
 pub text-same : (a b : List (ℕ × Event)) → ArePrintable a → ArePrintable b → text_of a ≡ text_of b → a ≡ b
 text-same [] [] h k e = refl

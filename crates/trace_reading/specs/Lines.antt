@@ -1,5 +1,6 @@
 -- How the words of a line behind its tick are read as an event, and a line as a tick and an event.
-use Rattle.std.specs.Prelude.{ℕ, ◌-◌, not, ◌&&◌, ◌==◌, if◌then◌else◌, List, Option, Some, None, length, take, slice_index, codes}
+use Rattle.std.specs.Prelude.{ℕ, ◌-◌, not, ◌&&◌, ◌==◌, if◌then◌else◌, List, Option}
+use Rattle.std.specs.Prelude.{Some, None, length, take, slice_index, codes}
 use Rattle.std.specs.Str.{bytes_eq}
 use Rattle.ann_base.specs.declared.identities.TaskNo.{TaskNo}
 use Rattle.ann_base.specs.declared.identities.ObjectNo.{ObjectNo}
@@ -9,7 +10,11 @@ use Rattle.trace_text.specs.declared.events.Created.{Created}
 use Rattle.trace_text.specs.declared.events.Created.TheVariants as created
 use Rattle.trace_text.specs.declared.events.Ended.TheVariants as ended_variants
 use Rattle.trace_text.specs.declared.events.Event.{Event}
-use Rattle.trace_text.specs.declared.events.Event.TheVariants.{New, Ready, Block, Run, Idle, Base, Deadline, Quantum, Done, Raise, Put, Call, Start, Finish, Cancel, Gone, Enter, Exit, Held, Abort, Trigger, Leave, Init, Final, Left, Replace, Release, Serve, Served, Interrupt, Port, Mask, Unmask, Masked, End}
+use Rattle.trace_text.specs.declared.events.Event.TheVariants.{New, Ready, Block, Run, Idle, Base, Deadline}
+use Rattle.trace_text.specs.declared.events.Event.TheVariants.{Quantum, Done, Raise, Put, Call, Start, Finish}
+use Rattle.trace_text.specs.declared.events.Event.TheVariants.{Cancel, Gone, Enter, Exit, Held, Abort, Trigger}
+use Rattle.trace_text.specs.declared.events.Event.TheVariants.{Leave, Init, Final, Left, Replace, Release, Serve}
+use Rattle.trace_text.specs.declared.events.Event.TheVariants.{Served, Interrupt, Port, Mask, Unmask, Masked, End}
 use Rattle.trace_text.specs.declared.words.Word.{Word}
 use Rattle.trace_text.specs.declared.words.Word.TheVariants as word
 use Rattle.trace_reading.specs.declared.read.Lead.{Lead}
@@ -17,7 +22,9 @@ use Rattle.trace_reading.specs.declared.read.Lead.TheVariants as lead
 use Rattle.trace_text.specs.Text.{task_text, object_text}
 use Rattle.trace_text.specs.Words.{word_text}
 use Rattle.trace_fields.specs.Spelt.{word_in, waits_in, mode_in, leaves_in, queue_end_in}
-use Rattle.trace_fields.specs.Reading.{◌>>=◌, front_of, rest_of, field, last_field, ended, number_in, short_in, long_in, moment_in, value_in, task_in, object_in, name_in, text_in, exception_in, finished_in, entry_in, handler_in, deadline_in}
+use Rattle.trace_fields.specs.Reading.{◌>>=◌, front_of, rest_of, field, last_field, ended, number_in}
+use Rattle.trace_fields.specs.Reading.{short_in, long_in, moment_in, value_in, task_in, object_in, name_in}
+use Rattle.trace_fields.specs.Reading.{text_in, exception_in, finished_in, entry_in, handler_in, deadline_in}
 use Rattle.std.specs.Option.{option_or}
 
 abbrev pub lead_text : Lead → List ℕ

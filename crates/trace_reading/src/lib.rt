@@ -1,4 +1,5 @@
-//! How a line of a trace is read: exactly the lines that `trace_text` writes are read, each as what it was written from.
+//! How a line of a trace is read: exactly the lines that `trace_text` writes are read, each as what
+//! it was written from.
 #![tactic(auto)]
 
 mod laws;

@@ -1,9 +1,14 @@
 //! How a line is read.
 ghost use Rattle.std.specs.Prelude.{◌≡◌, ℕ, ◌<◌, [], ◌∷◌, ◌++◌, IfSome, IfOk, Ok, codes, decimal};
 ghost use Rattle.std.specs.Result.{result_ok};
-ghost use Rattle.trace_text.specs.Text.{IsPrintable, IsPrintableLine, words_of, spaced, line_text, task_text, object_text, who_text, created_text};
+ghost use Rattle.trace_text.specs.Text.{IsPrintable, IsPrintableLine, words_of, spaced, line_text};
+ghost use Rattle.trace_text.specs.Text.{task_text, object_text, who_text, created_text};
 ghost use Rattle.trace_text.specs.Words.{word_text};
-ghost use Rattle.trace_reading.specs.Lines.{lead_text, lead_in, created_in, ready_in, call_in, finish_in, enter_in, held_in, leave_in, init_in, release_in, port_in, end_in, who_in, task_line_in, agent_line_in, object_line_in, bare_in, led_in, event_in, moment_and_event_in, line_in};
+ghost use Rattle.trace_reading.specs.Lines.{lead_text, lead_in, created_in, ready_in, call_in};
+ghost use Rattle.trace_reading.specs.Lines.{finish_in, enter_in, held_in, leave_in, init_in};
+ghost use Rattle.trace_reading.specs.Lines.{release_in, port_in, end_in, who_in, task_line_in};
+ghost use Rattle.trace_reading.specs.Lines.{agent_line_in, object_line_in, bare_in, led_in};
+ghost use Rattle.trace_reading.specs.Lines.{event_in, moment_and_event_in, line_in};
 ghost use Rattle.trace_text.specs.declared.events.Event.{Event};
 
 use ann_base::{CallNo, ObjectNo, RegionNo, TaskNo};

@@ -1,11 +1,20 @@
-//! The laws on lines, computed on traces: the worked traces keep each, and each broken trace breaks the one that it is made
-//! to break. The calls do nothing: their contracts are theorems on these traces.
+//! The laws on lines, computed on traces: the worked traces keep each, and each broken trace breaks
+//! the one that it is made to break. The calls do nothing: their contracts are theorems on these
+//! traces.
 #![tactic(auto)]
 
 ghost use Rattle.trace_text.specs.Laws.{DispatchOk, CeilingOk, LeftOk, Formed};
 ghost use Rattle.trace_rows.specs.Kept.{IsLawful};
-ghost use Rattle.trace_rows.specs.First.{trace_01, trace_03, trace_04, trace_05a, trace_05b, trace_05c, trace_06, trace_08a, trace_08b, trace_09a, trace_09b, trace_10, trace_11, trace_12, trace_13, trace_14a, trace_14b, trace_15a, trace_15b, trace_15c, trace_15d};
-ghost use Rattle.trace_rows.specs.Second.{trace_16, trace_19, trace_20a, trace_20b, trace_20c, trace_adjust_1, trace_adjust_2, trace_budgets_1, trace_controlled_1, trace_policies_1, trace_representation, trace_requeue_1, trace_requeue_2, trace_requeue_3, trace_wide_1, trace_wide_2};
+ghost use Rattle.trace_rows.specs.First.{trace_01, trace_03, trace_04, trace_05a, trace_05b};
+ghost use Rattle.trace_rows.specs.First.{trace_05c, trace_06, trace_08a, trace_08b};
+ghost use Rattle.trace_rows.specs.First.{trace_09a, trace_09b, trace_10, trace_11, trace_12};
+ghost use Rattle.trace_rows.specs.First.{trace_13, trace_14a, trace_14b, trace_15a};
+ghost use Rattle.trace_rows.specs.First.{trace_15b, trace_15c, trace_15d};
+ghost use Rattle.trace_rows.specs.Second.{trace_16, trace_19, trace_20a, trace_20b, trace_20c};
+ghost use Rattle.trace_rows.specs.Second.{trace_adjust_1, trace_adjust_2, trace_budgets_1};
+ghost use Rattle.trace_rows.specs.Second.{trace_controlled_1, trace_policies_1};
+ghost use Rattle.trace_rows.specs.Second.{trace_representation, trace_requeue_1, trace_requeue_2};
+ghost use Rattle.trace_rows.specs.Second.{trace_requeue_3, trace_wide_1, trace_wide_2};
 ghost use Rattle.trace_rows.specs.Plant.{trace_23};
 ghost use Rattle.trace_rows.specs.Broken.{wrong_runner, ceiling_too_low, final_left_out, new_twice};
 
@@ -67,8 +76,9 @@ pub fn plant_is_lawful()
     tests_tell();
 }
 
-/// A trace in which another task runs than the first breaks the law of dispatching, one whose ceiling is too low that of
-/// ceilings, one that lacks a `final` line that of leaving, and one with two `new` lines of one task is no trace.
+/// A trace in which another task runs than the first breaks the law of dispatching, one whose
+/// ceiling is too low that of ceilings, one that lacks a `final` line that of leaving, and one with
+/// two `new` lines of one task is no trace.
 pub fn broken_traces_are_told()
     ensures dispatch { ¬ (DispatchOk wrong_runner) }
     ensures ceilings { ¬ (CeilingOk ceiling_too_low) }

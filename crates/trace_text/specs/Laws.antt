@@ -1,5 +1,6 @@
 -- The laws that the lines of a run keep, as laws on lists of lines, and beside each a test that computes.
-use Rattle.std.specs.Prelude.{◌≡◌, ℕ, ◌+◌, Bool, true, false, not, ◌&&◌, ◌||◌, ◌==◌, if◌then◌else◌, nat_lt, nat_le, IsTrue, List, [], ◌∷◌, ◌++◌, Option, Some, None, length, ℤ, is_some}
+use Rattle.std.specs.Prelude.{◌≡◌, ℕ, ◌+◌, Bool, true, false, not, ◌&&◌, ◌||◌, ◌==◌, if◌then◌else◌, nat_lt}
+use Rattle.std.specs.Prelude.{nat_le, IsTrue, List, [], ◌∷◌, ◌++◌, Option, Some, None, length, ℤ, is_some}
 use Rattle.std.specs.List.{list_all, list_any}
 use Rattle.trace_text.specs.declared.lines.TheConstants.{LAST_TICK}
 use Rattle.trace_text.specs.declared.events.Who.{Who}
@@ -10,8 +11,13 @@ use Rattle.trace_text.specs.declared.events.Created.TheVariants as created
 use Rattle.trace_text.specs.declared.events.Mode.{Mode}
 use Rattle.trace_text.specs.declared.events.Mode.TheVariants as mode
 use Rattle.trace_text.specs.declared.events.Event.{Event}
-use Rattle.trace_text.specs.declared.events.Event.TheVariants.{New, Ready, Block, Run, Idle, Base, Deadline, Quantum, Done, Raise, Put, Call, Start, Finish, Cancel, Gone, Enter, Exit, Held, Abort, Trigger, Leave, Init, Final, Left, Replace, Release, Serve, Served, Interrupt, Port, Mask, Unmask, Masked, End}
-use Rattle.trace_text.specs.Queue.{TraceLine, Sight, see, nothing_seen, follows_ticks, follows_lines, AtEachTick, AtEachLine, RisesFrom, queue_after, entry_of, head_of, who_of, who_eq, somebody_eq}
+use Rattle.trace_text.specs.declared.events.Event.TheVariants.{New, Ready, Block, Run, Idle, Base, Deadline}
+use Rattle.trace_text.specs.declared.events.Event.TheVariants.{Quantum, Done, Raise, Put, Call, Start, Finish}
+use Rattle.trace_text.specs.declared.events.Event.TheVariants.{Cancel, Gone, Enter, Exit, Held, Abort, Trigger}
+use Rattle.trace_text.specs.declared.events.Event.TheVariants.{Leave, Init, Final, Left, Replace, Release, Serve}
+use Rattle.trace_text.specs.declared.events.Event.TheVariants.{Served, Interrupt, Port, Mask, Unmask, Masked, End}
+use Rattle.trace_text.specs.Queue.{TraceLine, Sight, see, nothing_seen, follows_ticks, follows_lines, AtEachTick}
+use Rattle.trace_text.specs.Queue.{AtEachLine, RisesFrom, queue_after, entry_of, head_of, who_of, who_eq, somebody_eq}
 
 -- DISPATCHING. At each tick the runner is the one in the queue of the highest level, then of the earliest deadline,
 -- then of the smallest place, and nobody exactly where the queue is empty (D.2.1, D.2.3, D.2.6).

@@ -1,5 +1,6 @@
 -- The text of a line of a trace: its tick, its words with single spaces between, a line feed.
-use Rattle.std.specs.Prelude.{◌≢◌, ◌≤◌, ◌<◌, ◌^◌, ℕ, ℤ, FitsSigned, Bool, true, false, ◌&&◌, ◌||◌, ◌==◌, if◌then◌else◌, nat_le, IsTrue, List, [], ◌∷◌, ◌++◌, Option, Some, None, length, codes, decimal, flat_map}
+use Rattle.std.specs.Prelude.{◌≢◌, ◌≤◌, ◌<◌, ◌^◌, ℕ, ℤ, FitsSigned, Bool, true, false, ◌&&◌, ◌||◌, ◌==◌, if◌then◌else◌}
+use Rattle.std.specs.Prelude.{nat_le, IsTrue, List, [], ◌∷◌, ◌++◌, Option, Some, None, length, codes, decimal, flat_map}
 use Rattle.std.specs.List.{list_all}
 use Rattle.std.specs.Fmt.{signed_decimal}
 use Rattle.std.specs.Int.{w32, w64}
@@ -25,7 +26,11 @@ use Rattle.trace_text.specs.declared.events.Finished.TheVariants as finished
 use Rattle.trace_text.specs.declared.events.Ended.{Ended}
 use Rattle.trace_text.specs.declared.events.Ended.TheVariants as ended
 use Rattle.trace_text.specs.declared.events.Event.{Event}
-use Rattle.trace_text.specs.declared.events.Event.TheVariants.{New, Ready, Block, Run, Idle, Base, Deadline, Quantum, Done, Raise, Put, Call, Start, Finish, Cancel, Gone, Enter, Exit, Held, Abort, Trigger, Leave, Init, Final, Left, Replace, Release, Serve, Served, Interrupt, Port, Mask, Unmask, Masked, End}
+use Rattle.trace_text.specs.declared.events.Event.TheVariants.{New, Ready, Block, Run, Idle, Base, Deadline}
+use Rattle.trace_text.specs.declared.events.Event.TheVariants.{Quantum, Done, Raise, Put, Call, Start, Finish}
+use Rattle.trace_text.specs.declared.events.Event.TheVariants.{Cancel, Gone, Enter, Exit, Held, Abort, Trigger}
+use Rattle.trace_text.specs.declared.events.Event.TheVariants.{Leave, Init, Final, Left, Replace, Release, Serve}
+use Rattle.trace_text.specs.declared.events.Event.TheVariants.{Served, Interrupt, Port, Mask, Unmask, Masked, End}
 
 -- tN
 abbrev pub task_text : TaskNo → List ℕ

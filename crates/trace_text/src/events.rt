@@ -130,7 +130,8 @@ pub enum Ended {
     Bound,
 }
 
-/// What a line says, behind its tick. The documentation of each variant gives the line, where N is a number.
+/// What a line says, behind its tick. The documentation of each variant gives the line, where N is
+/// a number.
 #[derive(Drop)]
 pub enum Event {
     /// `tN new NAME BASE` or `pN new NAME CEILING`: created; the name is the expanded one.
@@ -139,7 +140,8 @@ pub enum Event {
         name: Name,
         level: Level,
     },
-    /// `SUBJECT ready LEVEL head` or `tail`, on an EDF level then the deadline: placed on a ready queue.
+    /// `SUBJECT ready LEVEL head` or `tail`, on an EDF level then the deadline: placed on a ready
+    /// queue.
     Ready {
         who: Who,
         level: Level,
@@ -208,7 +210,8 @@ pub enum Event {
         task: TaskNo,
         call: CallNo,
     },
-    /// `tN gone C`: Tasking_Error, for the callee is not callable, or was aborted in the rendezvous.
+    /// `tN gone C`: Tasking_Error, for the callee is not callable, or was aborted in the
+    /// rendezvous.
     Gone {
         task: TaskNo,
         call: CallNo,

@@ -1,7 +1,11 @@
-//! The laws on lists of lines, as calls that do nothing: their contracts are theorems on the definitions.
+//! The laws on lists of lines, as calls that do nothing: their contracts are theorems on the
+//! definitions.
 ghost use Rattle.std.specs.Prelude.{◌↔◌, IsTrue, List};
 ghost use Rattle.trace_text.specs.Queue.{TraceLine, RisesFrom};
-ghost use Rattle.trace_text.specs.Laws.{DispatchOk, CeilingOk, ExclusiveOk, HandlersOk, LeftOk, Formed, follows_dispatch, follows_ceilings, follows_exclusion, follows_handlers, follows_leaving, follows_form, follows_laws, KeepsLaws};
+ghost use Rattle.trace_text.specs.Laws.{DispatchOk, CeilingOk, ExclusiveOk, HandlersOk};
+ghost use Rattle.trace_text.specs.Laws.{LeftOk, Formed, follows_dispatch, follows_ceilings};
+ghost use Rattle.trace_text.specs.Laws.{follows_exclusion, follows_handlers, follows_leaving};
+ghost use Rattle.trace_text.specs.Laws.{follows_form, follows_laws, KeepsLaws};
 
 /// Each law on lines, and what a trace is, holds exactly where the test beside it computes to true.
 pub fn tests_tell()

@@ -1,4 +1,5 @@
-//! The words of lines: the event words in the order in which summaries count them, and the words of their arguments.
+//! The words of lines: the event words in the order in which summaries count them, and the words of
+//! their arguments.
 ghost use Rattle.std.specs.Prelude.{◌≡◌, ◌≤◌, length};
 ghost use Rattle.trace_text.specs.Text.{queue_end_text, waits_text, mode_text, leaves_text};
 ghost use Rattle.trace_text.specs.Summary.{word_of};

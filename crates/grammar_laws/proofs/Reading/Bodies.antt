@@ -46,7 +46,8 @@ never_opened {X} F ls k x r e = by_test (sees_word (codes "is") ls) e
     by_test true e = absurd cc
     by_test false e = absurd cc
 
-pub opened_is : {X I : Type 0} (left : ℕ) (make : I → X) (P : I → Type 0) (w : I → List Written) (fits : I → ℕ → Bool) (ends : List Lexeme → Bool) (k : Parser X)
+pub opened_is : {X I : Type 0} (left : ℕ) (make : I → X) (P : I → Type 0) (w : I → List Written) (fits : I → ℕ → Bool) (ends : List Lexeme → Bool)
+    (k : Parser X)
     → ((m : ℕ) → left ≡ suc m → Rest make P w (λ i. fits i m) ends k)
     → Rest make P (λ i. word (codes "is") ∷ w i) (λ i. within left (fits i)) ends (opening_is_of left >>= (λ a. k))
 unfolding opening_is_of
@@ -75,10 +76,12 @@ pub body_exact : (left : ℕ) (sequence : SequenceRole → Parser Sequence) → 
 unfolding body_of starts begins_statement is_reserved
 body_exact left sequence known name =
     opened_is left itself Any (is_behind name) (λ b. sequence_fits b.sequence role.Body) always _
-    (λ m e. last_before itself Any (word (codes "end")) (end_behind name) always (λ b. b.sequence) (λ q. sequence_written q role.Body) (λ q. sequence_fits q role.Body m) (ends_sequence role.Body) (sequence role.Body) _
+    (λ m e. last_before itself Any (word (codes "end")) (end_behind name) always (λ b. b.sequence) (λ q. sequence_written q role.Body)
+    (λ q. sequence_fits q role.Body m) (ends_sequence role.Body) (sequence role.Body) _
     (inside_exact left m sequence e known) (λ l ls. refl)
     (λ inside. word_then itself _ (end_behind name) _ always (codes "end") _
-    (plain_before itself _ (delimiter (codes ";")) _ always (λ b. b.named_at_end) (λ b. end_name_written b name) shapeless (not_word name.text) (end_name_of name.text) _ (end_name_exact name) (λ l ls. refl) _ (λ b. refl)
+    (plain_before itself _ (delimiter (codes ";")) _ always (λ b. b.named_at_end) (λ b. end_name_written b name) shapeless (not_word name.text)
+    (end_name_of name.text) _ (end_name_exact name) (λ l ls. refl) _ (λ b. refl)
     (λ named. delimiter_ends itself _ (codes ";") (record { sequence = inside; named_at_end = named }) ((tt, refl), refl) (λ j p. rw (p.0.1, p.1) refl)))))
 
 -- ---- a specification, or the head of an entry, and a body
@@ -110,26 +113,32 @@ entry_body x = bodies.Entry x.0 x.1
 module _ (left : ℕ) (sequence : SequenceRole → Parser Sequence) (known : ReadsDeeper left sequence) where
   -- the body behind a specification
   pub specified_body_exact : {X : Type 0} (make : Specified → X) (specification : SubprogramSpecification)
-      → Rest make (λ x. Any x × (specification ≡ x.0)) specified_behind (λ x. body_fits sequence_fits left x.1) always (body_of left sequence specification.name.text >>= λ body. pure (make (specification, body)))
+      → Rest make (λ x. Any x × (specification ≡ x.0)) specified_behind (λ x. body_fits sequence_fits left x.1) always
+      (body_of left sequence specification.name.text >>= λ body. pure (make (specification, body)))
   specified_body_exact make specification =
       respelt_by make _ (λ x. body_written sequence_written specification.name x.1) specified_behind (λ x. body_fits sequence_fits left x.1) always _
-      (closing make _ always (λ x. x.1) (body_written sequence_written specification.name) (body_fits sequence_fits left) (body_of left sequence specification.name.text) (λ body. (specification, body)) (body_exact left sequence known specification.name)
+      (closing make _ always (λ x. x.1) (body_written sequence_written specification.name) (body_fits sequence_fits left)
+      (body_of left sequence specification.name.text) (λ body. (specification, body)) (body_exact left sequence known specification.name)
       (λ b. (tt, refl)) (λ b. refl) (λ b x p e. rw (p.1, e) refl))
       (λ x p. rw (p.1) refl)
 
   pub specified_exact : {X : Type 0} (make : Specified → X)
-      → Rest make Any specified_written (specified_fits left) always (specification_of left >>= λ specification. body_of left sequence specification.name.text >>= λ body. pure (make (specification, body)))
+      → Rest make Any specified_written (specified_fits left) always
+      (specification_of left >>= λ specification. body_of left sequence specification.name.text >>= λ body. pure (make (specification, body)))
   unfolding starts
   specified_exact make =
-      field make Any specified_behind (λ x. body_fits sequence_fits left x.1) always (λ x. x.0) specification_written (specification_fits left) ends_specification (specification_of left) _ (specification_exact left)
+      field make Any specified_behind (λ x. body_fits sequence_fits left x.1) always (λ x. x.0) specification_written
+      (specification_fits left) ends_specification (specification_of left) _ (specification_exact left)
       (λ x ls r p l end. first_is ends_specification true (word (codes "is")) (λ l ls. refl) (is_behind x.0.name x.1) ls r l)
       (λ specification. specified_body_exact make specification)
 
   headed_body_exact : (head : EntryHead)
-      → Rest entry_body (λ x. Any x × (head ≡ x.0)) headed_behind (λ x. body_fits sequence_fits left x.1) always (body_of left sequence head.name.text >>= λ body. pure (entry_body (head, body)))
+      → Rest entry_body (λ x. Any x × (head ≡ x.0)) headed_behind (λ x. body_fits sequence_fits left x.1) always
+      (body_of left sequence head.name.text >>= λ body. pure (entry_body (head, body)))
   headed_body_exact head =
       respelt_by entry_body _ (λ x. body_written sequence_written head.name x.1) headed_behind (λ x. body_fits sequence_fits left x.1) always _
-      (closing entry_body _ always (λ x. x.1) (body_written sequence_written head.name) (body_fits sequence_fits left) (body_of left sequence head.name.text) (λ body. (head, body)) (body_exact left sequence known head.name)
+      (closing entry_body _ always (λ x. x.1) (body_written sequence_written head.name) (body_fits sequence_fits left) (body_of left sequence head.name.text)
+      (λ body. (head, body)) (body_exact left sequence known head.name)
       (λ b. (tt, refl)) (λ b. refl) (λ b x p e. rw (p.1, e) refl))
       (λ x p. rw (p.1) refl)
 
@@ -139,10 +148,12 @@ module _ (left : ℕ) (sequence : SequenceRole → Parser Sequence) (known : Rea
   unfolding subprogram_operation_of
   subprogram_operation_exact = specified_exact subprogram_body
 
-  entry_operation_exact : Rest entry_body Any (λ x. entry_head_written x.0 ++ headed_behind x) (λ x. entry_head_fits left x.0 && body_fits sequence_fits left x.1) always (entry_operation_of left sequence)
+  entry_operation_exact : Rest entry_body Any (λ x. entry_head_written x.0 ++ headed_behind x)
+      (λ x. entry_head_fits left x.0 && body_fits sequence_fits left x.1) always (entry_operation_of left sequence)
   unfolding entry_operation_of starts
   entry_operation_exact =
-      field entry_body Any headed_behind (λ x. body_fits sequence_fits left x.1) always (λ x. x.0) entry_head_written (entry_head_fits left) ends_expression (entry_head_of left) _ (entry_head_exact left)
+      field entry_body Any headed_behind (λ x. body_fits sequence_fits left x.1) always (λ x. x.0) entry_head_written (entry_head_fits left) ends_expression
+      (entry_head_of left) _ (entry_head_exact left)
       (λ x ls r p l end. first_is ends_expression true (word (codes "is")) (λ l ls. refl) (is_behind x.0.name x.1) ls r l)
       (λ head. headed_body_exact head)
 
@@ -152,7 +163,8 @@ module _ (left : ℕ) (sequence : SequenceRole → Parser Sequence) (known : Rea
       either (sees_word (codes "entry")) (one_form entry_body entry_operation_exact (λ x. refl) (λ x. refl))
       (one_form subprogram_body subprogram_operation_exact (λ x. refl) (λ x. refl))
 
-  operation_body_complete : (o : OperationBody Sequence) (ls r : List Lexeme) → operation_body_fits sequence_fits left o ≡ true → Leads (operation_body_written sequence_written o) ls r → operation_body_of left sequence ls ≡ done o r
+  operation_body_complete : (o : OperationBody Sequence) (ls r : List Lexeme) → operation_body_fits sequence_fits left o ≡ true
+      → Leads (operation_body_written sequence_written o) ls r → operation_body_of left sequence ls ≡ done o r
   unfolding operation_body_of starts
   operation_body_complete (bodies.Subprogram specification body) ls r okay l =
       let t = leads_through (specification_written specification) (body_written sequence_written specification.name body) ls r l in
@@ -165,7 +177,8 @@ module _ (left : ℕ) (sequence : SequenceRole → Parser Sequence) (known : Rea
   pub operation_body_exact : Exact (operation_body_written sequence_written) (operation_body_fits sequence_fits left) always (operation_body_of left sequence)
   operation_body_exact = record { sound = operation_body_sound.by; complete = λ o ls r q okay l end. operation_body_complete o ls r okay l }
 
-pub operation_body_begins : (o : OperationBody Sequence) (ls r : List Lexeme) → Leads (operation_body_written sequence_written o) ls r → begins_operation ls ≡ true
+pub operation_body_begins : (o : OperationBody Sequence) (ls r : List Lexeme) → Leads (operation_body_written sequence_written o) ls r
+    → begins_operation ls ≡ true
 unfolding starts
 operation_body_begins (bodies.Subprogram specification body) ls r l =
     let t = leads_through (specification_written specification) (body_written sequence_written specification.name body) ls r l in
@@ -175,8 +188,10 @@ operation_body_begins (bodies.Entry head body) ls r l =
     rw (entry_head_begins head ls t.middle t.first) refl
 
 pub operation_bodies_exact : (left : ℕ) (sequence : SequenceRole → Parser Sequence) → ReadsDeeper left sequence
-    → Exact (flat_map (operation_body_written sequence_written)) (list_all (operation_body_fits sequence_fits left)) ends_operations (items_of begins_operation (operation_body_of left sequence))
+    → Exact (flat_map (operation_body_written sequence_written)) (list_all (operation_body_fits sequence_fits left)) ends_operations
+    (items_of begins_operation (operation_body_of left sequence))
 unfolding starts
 operation_bodies_exact left sequence known =
-    listed begins_operation (operation_body_written sequence_written) (operation_body_fits sequence_fits left) always ends_operations (operation_body_of left sequence) (operation_body_exact left sequence known) operation_body_begins refl
+    listed begins_operation (operation_body_written sequence_written) (operation_body_fits sequence_fits left) always ends_operations
+    (operation_body_of left sequence) (operation_body_exact left sequence known) operation_body_begins refl
     (λ r e. refl) (λ r e. refl) (λ r e. not-true (begins_operation r) e)

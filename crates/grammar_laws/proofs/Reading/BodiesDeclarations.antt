@@ -27,9 +27,11 @@ use Rattle.grammar_laws.proofs.Reading.ClausesObjects.{named_declaration_sound, 
 use Rattle.grammar_laws.proofs.Reading.ClausesTypes.{type_exact, subtype_exact}
 use Rattle.grammar_laws.proofs.Reading.ClausesSpecifications.{specification_first}
 use Rattle.grammar_laws.proofs.Reading.ClausesTasks.{task_behind, protected_behind}
-use Rattle.grammar_laws.proofs.Reading.BodiesForms.{protected_body_behind, subprogram_sound, subprogram_complete, subprogram_body_complete, task_sound, task_body_complete, task_complete, protected_sound, protected_body_complete, protected_complete}
+use Rattle.grammar_laws.proofs.Reading.BodiesForms.{protected_body_behind, subprogram_sound, subprogram_complete, subprogram_body_complete, task_sound}
+use Rattle.grammar_laws.proofs.Reading.BodiesForms.{task_body_complete, task_complete, protected_sound, protected_body_complete, protected_complete}
 
-module _ (left : ℕ) (sequence : SequenceRole → Parser Sequence) (deeper : SequenceRole → Parser Sequence) (known : ReadsDeeper left sequence) (further : ReadsDeeper (below left) deeper) where
+module _ (left : ℕ) (sequence : SequenceRole → Parser Sequence) (deeper : SequenceRole → Parser Sequence) (known : ReadsDeeper left sequence)
+    (further : ReadsDeeper (below left) deeper) where
   declaration_sound : Sound itself (declaration_written sequence_written) (declaration_fits sequence_fits left) (declaration_of left sequence deeper)
   unfolding declaration_of
   declaration_sound =
@@ -42,7 +44,8 @@ module _ (left : ℕ) (sequence : SequenceRole → Parser Sequence) (deeper : Se
       (subprogram_sound left sequence known))))))
 
   -- a specification stands there, so none of the others does
-  specified_there : (s : SubprogramSpecification) (w : List Written) (ls r : List Lexeme) → Leads (specification_written s ++ w) ls r → declaration_of left sequence deeper ls ≡ subprogram_of left sequence ls
+  specified_there : (s : SubprogramSpecification) (w : List Written) (ls r : List Lexeme) → Leads (specification_written s ++ w) ls r
+      → declaration_of left sequence deeper ls ≡ subprogram_of left sequence ls
   unfolding declaration_of starts is_reserved
   specified_there s w ls r l =
       let t = leads_through (specification_written s) w ls r l in
@@ -56,15 +59,19 @@ module _ (left : ℕ) (sequence : SequenceRole → Parser Sequence) (deeper : Se
       )
       refl
 
-  tasks_there : (p : Place) (ws : List Written) (ls r : List Lexeme) → Leads (word_at p (codes "task") ∷ ws) ls r → declaration_of left sequence deeper ls ≡ any_task_of left sequence ls
+  tasks_there : (p : Place) (ws : List Written) (ls r : List Lexeme) → Leads (word_at p (codes "task") ∷ ws) ls r
+      → declaration_of left sequence deeper ls ≡ any_task_of left sequence ls
   unfolding declaration_of starts is_reserved
   tasks_there p ws ls r l = begun_by (word_at p (codes "task")) (declaration_of left sequence deeper) (any_task_of left sequence) (λ l ls. refl) ws ls r l
 
-  protected_there : (p : Place) (ws : List Written) (ls r : List Lexeme) → Leads (word_at p (codes "protected") ∷ ws) ls r → declaration_of left sequence deeper ls ≡ any_protected_of left sequence deeper ls
+  protected_there : (p : Place) (ws : List Written) (ls r : List Lexeme) → Leads (word_at p (codes "protected") ∷ ws) ls r
+      → declaration_of left sequence deeper ls ≡ any_protected_of left sequence deeper ls
   unfolding declaration_of starts is_reserved
-  protected_there p ws ls r l = begun_by (word_at p (codes "protected")) (declaration_of left sequence deeper) (any_protected_of left sequence deeper) (λ l ls. refl) ws ls r l
+  protected_there p ws ls r l =
+      begun_by (word_at p (codes "protected")) (declaration_of left sequence deeper) (any_protected_of left sequence deeper) (λ l ls. refl) ws ls r l
 
-  declaration_complete : (d : Declaration Sequence) (ls r : List Lexeme) → declaration_fits sequence_fits left d ≡ true → Leads (declaration_written sequence_written d) ls r → declaration_of left sequence deeper ls ≡ done d r
+  declaration_complete : (d : Declaration Sequence) (ls r : List Lexeme) → declaration_fits sequence_fits left d ≡ true
+      → Leads (declaration_written sequence_written d) ls r → declaration_of left sequence deeper ls ≡ done d r
   unfolding declaration_of starts is_reserved
   declaration_complete (declarations.Object o) ls r okay l = rw (object_begins o ls r l) (object_complete left o ls r okay l)
   declaration_complete (declarations.Type t) ls r okay l =
@@ -79,20 +86,28 @@ module _ (left : ℕ) (sequence : SequenceRole → Parser Sequence) (deeper : Se
       specified_there s (body_written sequence_written s.name body) ls r l ∙ subprogram_body_complete left sequence known (s, body) ls r okay l
   declaration_complete (declarations.Task t) ls r okay l = tasks_there t.place (task_behind t) ls r l ∙ task_complete left sequence known t ls r okay l
   declaration_complete (declarations.TaskBody place name body) ls r okay l =
-      tasks_there place (word (codes "body") ∷ identifier_written name ∷ body_written sequence_written name body) ls r l ∙ task_body_complete left sequence known (place, (name, body)) ls r okay l
-  declaration_complete (declarations.Protected p) ls r okay l = protected_there p.place (protected_behind p) ls r l ∙ protected_complete left sequence deeper further p ls r okay l
-  declaration_complete (declarations.ProtectedBody p) ls r okay l = protected_there p.place (protected_body_behind p) ls r l ∙ protected_body_complete left sequence deeper further p ls r okay l
+      tasks_there place (word (codes "body") ∷ identifier_written name ∷ body_written sequence_written name body) ls r l
+      ∙ task_body_complete left sequence known (place, (name, body)) ls r okay l
+  declaration_complete (declarations.Protected p) ls r okay l =
+      protected_there p.place (protected_behind p) ls r l ∙ protected_complete left sequence deeper further p ls r okay l
+  declaration_complete (declarations.ProtectedBody p) ls r okay l =
+      protected_there p.place (protected_body_behind p) ls r l ∙ protected_body_complete left sequence deeper further p ls r okay l
   declaration_complete (declarations.Use place name) ls r okay l =
-      begun_by (word_at place (codes "use")) (declaration_of left sequence deeper) use_of (λ l ls. refl) (name_written name ++ semicolon) ls r l ∙ use_exact.complete (place, name) ls r tt refl l refl
+      begun_by (word_at place (codes "use")) (declaration_of left sequence deeper) use_of (λ l ls. refl) (name_written name ++ semicolon) ls r l
+      ∙ use_exact.complete (place, name) ls r tt refl l refl
 
 pub declaration_exact : (left : ℕ) (sequence deeper : SequenceRole → Parser Sequence) → ReadsDeeper left sequence → ReadsDeeper (below left) deeper
     → Exact (declaration_written sequence_written) (declaration_fits sequence_fits left) always (declaration_of left sequence deeper)
 declaration_exact left sequence deeper known further =
-    record { sound = (declaration_sound left sequence deeper known further).by; complete = λ d ls r q okay l end. declaration_complete left sequence deeper known further d ls r okay l }
+    record {
+      sound = (declaration_sound left sequence deeper known further).by;
+      complete = λ d ls r q okay l end. declaration_complete left sequence deeper known further d ls r okay l;
+    }
 
 -- ---- what declarations begin with
 
-specified_begins : (s : SubprogramSpecification) (w : List Written) (ls r : List Lexeme) → Leads (specification_written s ++ w) ls r → begins_declaration ls ≡ true
+specified_begins : (s : SubprogramSpecification) (w : List Written) (ls r : List Lexeme) → Leads (specification_written s ++ w) ls r
+    → begins_declaration ls ≡ true
 unfolding begins_declaration starts is_reserved
 specified_begins s w ls r l =
     let t = leads_through (specification_written s) w ls r l in
@@ -102,15 +117,21 @@ pub declaration_begins : (d : Declaration Sequence) (ls r : List Lexeme) → Lea
 unfolding begins_declaration starts is_reserved
 declaration_begins (declarations.Object o) ls r l = rw (object_begins o ls r l) refl
 declaration_begins (declarations.Type t) ls r l =
-    first_is begins_declaration true (word_at t.place (codes "type")) (λ l ls. refl) (identifier_written t.name ∷ word (codes "is") ∷ (definition_written t.definition ++ semicolon)) ls r l
+    first_is begins_declaration true (word_at t.place (codes "type")) (λ l ls. refl)
+    (identifier_written t.name ∷ word (codes "is") ∷ (definition_written t.definition ++ semicolon)) ls r l
 declaration_begins (declarations.Subtype s) ls r l =
-    first_is begins_declaration true (word_at s.place (codes "subtype")) (λ l ls. refl) (identifier_written s.name ∷ word (codes "is") ∷ (indication_written s.subtype ++ semicolon)) ls r l
+    first_is begins_declaration true (word_at s.place (codes "subtype")) (λ l ls. refl)
+    (identifier_written s.name ∷ word (codes "is") ∷ (indication_written s.subtype ++ semicolon)) ls r l
 declaration_begins (declarations.Exception names) ls r l = rw (exception_begins names ls r l) refl
 declaration_begins (declarations.Subprogram s) ls r l = specified_begins s semicolon ls r l
 declaration_begins (declarations.SubprogramBody s body) ls r l = specified_begins s (body_written sequence_written s.name body) ls r l
 declaration_begins (declarations.Task t) ls r l = first_is begins_declaration true (word_at t.place (codes "task")) (λ l ls. refl) (task_behind t) ls r l
 declaration_begins (declarations.TaskBody place name body) ls r l =
-    first_is begins_declaration true (word_at place (codes "task")) (λ l ls. refl) (word (codes "body") ∷ identifier_written name ∷ body_written sequence_written name body) ls r l
-declaration_begins (declarations.Protected p) ls r l = first_is begins_declaration true (word_at p.place (codes "protected")) (λ l ls. refl) (protected_behind p) ls r l
-declaration_begins (declarations.ProtectedBody p) ls r l = first_is begins_declaration true (word_at p.place (codes "protected")) (λ l ls. refl) (protected_body_behind p) ls r l
-declaration_begins (declarations.Use place name) ls r l = first_is begins_declaration true (word_at place (codes "use")) (λ l ls. refl) (name_written name ++ semicolon) ls r l
+    first_is begins_declaration true (word_at place (codes "task")) (λ l ls. refl)
+    (word (codes "body") ∷ identifier_written name ∷ body_written sequence_written name body) ls r l
+declaration_begins (declarations.Protected p) ls r l =
+    first_is begins_declaration true (word_at p.place (codes "protected")) (λ l ls. refl) (protected_behind p) ls r l
+declaration_begins (declarations.ProtectedBody p) ls r l =
+    first_is begins_declaration true (word_at p.place (codes "protected")) (λ l ls. refl) (protected_body_behind p) ls r l
+declaration_begins (declarations.Use place name) ls r l =
+    first_is begins_declaration true (word_at place (codes "use")) (λ l ls. refl) (name_written name ++ semicolon) ls r l

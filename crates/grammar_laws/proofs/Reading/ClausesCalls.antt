@@ -28,7 +28,8 @@ use Rattle.grammar_laws.proofs.Reading.Choices.{Sound, one_form}
 use Rattle.grammar_laws.proofs.Reading.Ends.{ends_expression, ends_arguments}
 use Rattle.grammar_laws.proofs.Reading.Expressions.{expression_exact, arguments_exact}
 use Rattle.grammar_laws.proofs.Reading.ClausesEnds.{stop_enclosed}
-use Rattle.grammar_laws.proofs.Reading.ClausesSteps.{delimiter_ends, field_before, last_before, word_kept, known, no_item, carried, chosen_by, passed_by, forked_behind}
+use Rattle.grammar_laws.proofs.Reading.ClausesSteps.{delimiter_ends, field_before, last_before, word_kept, known}
+use Rattle.grammar_laws.proofs.Reading.ClausesSteps.{no_item, carried, chosen_by, passed_by, forked_behind}
 use Rattle.grammar_laws.proofs.Reading.ClausesValues.{value_no_until}
 
 -- ---- calls
@@ -41,15 +42,18 @@ no_point : (token : Written) (w : List Written) → ((l : Lexeme) (ls : List Lex
     → (arguments : List (Argument Expression)) (ls r : List Lexeme) → Leads (actuals_written arguments ++ token ∷ w) ls r → not_delimiter (codes ".") ls ≡ true
 unfolding starts
 no_point token w on arguments ls r l =
-    stop_enclosed (not_delimiter (codes ".")) true (delimiter (codes "(")) (delimiter (codes ",")) (delimiter (codes ")") ∷ []) (argument_written expression_written) (token ∷ w)
+    stop_enclosed (not_delimiter (codes ".")) true (delimiter (codes "(")) (delimiter (codes ",")) (delimiter (codes ")") ∷ [])
+    (argument_written expression_written) (token ∷ w)
     (λ l ls. refl) (λ ls r l. first_is (not_delimiter (codes ".")) true token on w ls r l) arguments ls r l
 
 pub call_exact : (left : ℕ) → Exact call_written (call_fits left) always (call_of left)
 unfolding call_of starts
 call_exact left =
-    plain itself Any (λ c. actuals_written c.arguments ++ semicolon) (call_fits left) always (λ c. c.name) name_written shapeless (not_delimiter (codes ".")) name_of _ name_exact (λ a. refl)
+    plain itself Any (λ c. actuals_written c.arguments ++ semicolon) (call_fits left) always (λ c. c.name) name_written shapeless
+    (not_delimiter (codes ".")) name_of _ name_exact (λ a. refl)
     (λ c ls r p l end. no_point (delimiter (codes ";")) [] (λ l ls. refl) c.arguments ls r l)
-    (λ name. last_before itself _ (delimiter (codes ";")) _ always (λ c. c.arguments) actuals_written (arguments_fit expression_fits left) ends_arguments (all_arguments_of left) _ (arguments_exact left) (λ l ls. refl)
+    (λ name. last_before itself _ (delimiter (codes ";")) _ always (λ c. c.arguments) actuals_written (arguments_fit expression_fits left) ends_arguments
+    (all_arguments_of left) _ (arguments_exact left) (λ l ls. refl)
     (λ arguments. delimiter_ends itself _ (codes ";") (record { name = name; arguments = arguments }) ((tt, refl), refl) (λ j p. rw (p.0.1, p.1) refl)))
 
 -- "delay" ["until"] expression ";"
@@ -57,10 +61,13 @@ pub delay_exact : (left : ℕ) → Exact delay_written (delay_fits left) always 
 unfolding delay_of starts
 delay_exact left =
     word_kept itself Any _ _ always (λ d. d.place) (codes "delay") _
-    (λ place. plain itself _ (λ d. expression_written d.value ++ semicolon) _ always (λ d. d.until) (λ b. flag b (word (codes "until") ∷ [])) shapeless (not_word (codes "until")) (flag_of (codes "until")) _ (flag_exact (codes "until")) (λ a. refl)
+    (λ place. plain itself _ (λ d. expression_written d.value ++ semicolon) _ always (λ d. d.until) (λ b. flag b (word (codes "until") ∷ [])) shapeless
+    (not_word (codes "until")) (flag_of (codes "until")) _ (flag_exact (codes "until")) (λ a. refl)
     (λ d ls r p l end. value_no_until d.value semicolon ls r l)
-    (λ until. last_before itself _ (delimiter (codes ";")) _ always (λ d. d.value) expression_written (value_fits left) ends_expression (expression_of left) _ (expression_exact left) (λ l ls. refl)
-    (λ value. delimiter_ends itself _ (codes ";") (record { place = place; until = until; value = value }) (((tt, refl), refl), refl) (λ j p. rw (p.0.0.1, p.0.1, p.1) refl))))
+    (λ until. last_before itself _ (delimiter (codes ";")) _ always (λ d. d.value) expression_written (value_fits left) ends_expression (expression_of left) _
+    (expression_exact left) (λ l ls. refl)
+    (λ value. delimiter_ends itself _ (codes ";") (record { place = place; until = until; value = value }) (((tt, refl), refl), refl)
+    (λ j p. rw (p.0.0.1, p.0.1, p.1) refl))))
 
 -- ---- an assignment or a call: the same until the arguments are read
 
@@ -72,9 +79,11 @@ pub call_statement_exact : (left : ℕ) → Rest (λ (c : Call). statements.Call
 unfolding call_behind_of starts
 call_statement_exact left =
     let make : Call → Statement Sequence = λ c. statements.Call c in
-    plain make Any (λ c. actuals_written c.arguments ++ semicolon) (call_fits left) always (λ c. c.name) name_written shapeless (not_delimiter (codes ".")) name_of _ name_exact (λ a. refl)
+    plain make Any (λ c. actuals_written c.arguments ++ semicolon) (call_fits left) always (λ c. c.name) name_written shapeless
+    (not_delimiter (codes ".")) name_of _ name_exact (λ a. refl)
     (λ c ls r p l end. no_point (delimiter (codes ";")) [] (λ l ls. refl) c.arguments ls r l)
-    (λ name. last_before make _ (delimiter (codes ";")) _ always (λ c. c.arguments) actuals_written (arguments_fit expression_fits left) ends_arguments (all_arguments_of left) _ (arguments_exact left) (λ l ls. refl)
+    (λ name. last_before make _ (delimiter (codes ";")) _ always (λ c. c.arguments) actuals_written (arguments_fit expression_fits left) ends_arguments
+    (all_arguments_of left) _ (arguments_exact left) (λ l ls. refl)
     (λ arguments. delimiter_ends make _ (codes ";") (record { name = name; arguments = arguments }) ((tt, refl), refl) (λ j p. rw (p.0.1, p.1) refl)))
 
 -- what the index of an element is among arguments
@@ -115,12 +124,15 @@ value_behind a = delimiter (codes ":=") ∷ (expression_written a.value ++ semic
 abbrev Aimed : Name → Assignment → Type 0
 Aimed target a = Any a × (target ≡ a.target)
 
-becomes_exact : (left : ℕ) (target : Name) (index : Option Expression) → Rest assigns (λ a. Aimed target a × (index ≡ a.index)) value_behind (λ a. value_fits left a.value) always (becomes_of left target index)
+becomes_exact : (left : ℕ) (target : Name) (index : Option Expression)
+    → Rest assigns (λ a. Aimed target a × (index ≡ a.index)) value_behind (λ a. value_fits left a.value) always (becomes_of left target index)
 unfolding starts
 becomes_exact left target index =
     delimiter_then assigns (λ a. Aimed target a × (index ≡ a.index)) _ _ always (codes ":=") _
-    (last_before assigns _ (delimiter (codes ";")) _ always (λ a. a.value) expression_written (value_fits left) ends_expression (expression_of left) _ (expression_exact left) (λ l ls. refl)
-    (λ value. delimiter_ends assigns _ (codes ";") (record { target = target; index = index; value = value }) (((tt, refl), refl), refl) (λ j p. rw (p.0.0.1, p.0.1, p.1) refl)))
+    (last_before assigns _ (delimiter (codes ";")) _ always (λ a. a.value) expression_written (value_fits left) ends_expression (expression_of left) _
+    (expression_exact left) (λ l ls. refl)
+    (λ value. delimiter_ends assigns _ (codes ";") (record { target = target; index = index; value = value }) (((tt, refl), refl), refl)
+    (λ j p. rw (p.0.0.1, p.0.1, p.1) refl)))
 
 not_given : (o : Option Expression) → [] ≡ index_given o → None ≡ o
 not_given None e = refl
@@ -153,12 +165,15 @@ abbrev Given : Name → List (Argument Expression) → Assignment → Type 0
 Given target arguments a = Aimed target a × (arguments ≡ index_given a.index)
 
 one_given : (left : ℕ) (target : Name) (formal : Option Identifier) (value : Expression)
-    → Rest assigns (Given target (record { formal = formal; value = value } ∷ [])) value_behind (λ a. value_fits left a.value) always (only_index_of formal value >>= becomes_of left target)
+    → Rest assigns (Given target (record { formal = formal; value = value } ∷ [])) value_behind (λ a. value_fits left a.value) always
+    (only_index_of formal value >>= becomes_of left target)
 one_given left target None value =
-    known assigns (λ a. Aimed target a × (Some value ≡ a.index)) (Given target (only_index value)) value_behind (λ a. value_fits left a.value) always (becomes_of left target (Some value))
+    known assigns (λ a. Aimed target a × (Some value ≡ a.index)) (Given target (only_index value)) value_behind (λ a. value_fits left a.value) always
+    (becomes_of left target (Some value))
     (becomes_exact left target (Some value)) (λ a p. (p.0, ap index_given p.1)) (λ a p. (p.0, given_once value a.index p.1))
 one_given left target (Some formal) value =
-    no_item assigns (Given target (record { formal = Some formal; value = value } ∷ [])) value_behind (λ a. value_fits left a.value) always (only_index_of (Some formal) value >>= becomes_of left target)
+    no_item assigns (Given target (record { formal = Some formal; value = value } ∷ [])) value_behind (λ a. value_fits left a.value) always
+    (only_index_of (Some formal) value >>= becomes_of left target)
     (λ ls x r e. absurd cc) (λ a p. never_named formal value a.index p.1)
 
 assignment_behind_exact : (left : ℕ) (target : Name) (arguments : List (Argument Expression))
@@ -193,9 +208,12 @@ unfolding starts
 assignment_statement_exact left =
     reshaped assigns Any assignment_written (assignment_refit left) (assignment_fits left) always (assignment_whole_of left)
     (respelt assigns Any assignment_respelt assignment_written (assignment_refit left) always (assignment_whole_of left)
-    (plain assigns Any (λ a. actuals_written (index_given a.index) ++ value_behind a) (assignment_refit left) always (λ a. a.target) name_written shapeless (not_delimiter (codes ".")) name_of _ name_exact (λ a. refl)
+    (plain assigns Any (λ a. actuals_written (index_given a.index) ++ value_behind a) (assignment_refit left) always (λ a. a.target) name_written shapeless
+    (not_delimiter (codes ".")) name_of _ name_exact (λ a. refl)
     (λ a ls r p l end. no_point (delimiter (codes ":=")) (expression_written a.value ++ semicolon) (λ l ls. refl) (index_given a.index) ls r l)
-    (λ name. field_before assigns (Aimed name) (delimiter (codes ":=")) (λ a. expression_written a.value ++ semicolon) always (λ a. index_given a.index) actuals_written (arguments_fit expression_fits left) ends_arguments (all_arguments_of left) _ (arguments_exact left) (λ l ls. refl) (λ a. value_fits left a.value)
+    (λ name. field_before assigns (Aimed name) (delimiter (codes ":=")) (λ a. expression_written a.value ++ semicolon) always
+    (λ a. index_given a.index) actuals_written (arguments_fit expression_fits left) ends_arguments (all_arguments_of left) _ (arguments_exact left)
+    (λ l ls. refl) (λ a. value_fits left a.value)
     (λ arguments. assignment_behind_exact left name arguments)))
     assignment_same) (assignment_refits left)
 
@@ -215,9 +233,12 @@ becomes_seen left target arguments m x r e =
     let f = (assignment_behind_exact left target arguments).sound m x r e in
     sees_delimiter_first (codes ":=") (expression_written f.item.value ++ semicolon) m r f.leads
 
-call_behind_exact : (name : Name) (arguments : List (Argument Expression)) → Rest {X = Statement Sequence} (λ (u : Unit {0}). statements.Call (record { name = name; arguments = arguments })) Any (λ u. semicolon) shapeless always (call_behind_of name arguments)
+call_behind_exact : (name : Name) (arguments : List (Argument Expression))
+    → Rest {X = Statement Sequence} (λ (u : Unit {0}). statements.Call (record { name = name; arguments = arguments })) Any (λ u. semicolon) shapeless always
+    (call_behind_of name arguments)
 unfolding call_behind_of
-call_behind_exact name arguments = delimiter_ends (λ (u : Unit {0}). statements.Call (record { name = name; arguments = arguments })) Any (codes ";") tt tt (λ u p. refl)
+call_behind_exact name arguments =
+    delimiter_ends (λ (u : Unit {0}). statements.Call (record { name = name; arguments = arguments })) Any (codes ";") tt tt (λ u p. refl)
 
 semicolon_seen : (name : Name) (arguments : List (Argument Expression)) (m : List Lexeme) (x : Statement Sequence) (r : List Lexeme)
     → call_behind_of name arguments m ≡ done x r → sees_delimiter (codes ":=") m ≡ false
@@ -226,20 +247,24 @@ semicolon_seen name arguments m x r e =
     let f = (call_behind_exact name arguments).sound m x r e in
     first_is (sees_delimiter (codes ":=")) false (delimiter (codes ";")) (λ l ls. refl) [] m r f.leads
 
-pub assignment_complete : (left : ℕ) (a : Assignment) (ls r : List Lexeme) → assignment_fits left a ≡ true → Leads (assignment_written a) ls r → simple_of {Q = Sequence} left ls ≡ done (statements.Assignment a) r
+pub assignment_complete : (left : ℕ) (a : Assignment) (ls r : List Lexeme) → assignment_fits left a ≡ true → Leads (assignment_written a) ls r
+    → simple_of {Q = Sequence} left ls ≡ done (statements.Assignment a) r
 unfolding simple_of
 assignment_complete left a ls r okay l =
     carried name_of (λ name. all_arguments_of left >>= λ arguments. assignment_behind_of left name arguments) _ ls (statements.Assignment a) r
     (λ name m e. carried (all_arguments_of left) (assignment_behind_of left name) _ m (statements.Assignment a) r
-    (λ arguments n e. chosen_by (sees_delimiter (codes ":=")) (assignment_behind_of left name arguments) (call_behind_of name arguments) n (statements.Assignment a) r (becomes_seen left name arguments n (statements.Assignment a) r) e) e)
+    (λ arguments n e. chosen_by (sees_delimiter (codes ":=")) (assignment_behind_of left name arguments) (call_behind_of name arguments) n
+    (statements.Assignment a) r (becomes_seen left name arguments n (statements.Assignment a) r) e) e)
     ((assignment_statement_exact left).complete a ls r tt okay l refl)
 
-pub call_complete : (left : ℕ) (c : Call) (ls r : List Lexeme) → call_fits left c ≡ true → Leads (call_written c) ls r → simple_of {Q = Sequence} left ls ≡ done (statements.Call c) r
+pub call_complete : (left : ℕ) (c : Call) (ls r : List Lexeme) → call_fits left c ≡ true → Leads (call_written c) ls r
+    → simple_of {Q = Sequence} left ls ≡ done (statements.Call c) r
 unfolding simple_of
 call_complete left c ls r okay l =
     carried name_of (λ name. all_arguments_of left >>= λ arguments. call_behind_of name arguments) _ ls (statements.Call c) r
     (λ name m e. carried (all_arguments_of left) (call_behind_of name) _ m (statements.Call c) r
-    (λ arguments n e. passed_by (sees_delimiter (codes ":=")) (assignment_behind_of left name arguments) (call_behind_of name arguments) n (statements.Call c) r (semicolon_seen name arguments n (statements.Call c) r) e) e)
+    (λ arguments n e. passed_by (sees_delimiter (codes ":=")) (assignment_behind_of left name arguments) (call_behind_of name arguments) n (statements.Call c) r
+    (semicolon_seen name arguments n (statements.Call c) r) e) e)
     ((call_statement_exact left).complete c ls r tt okay l refl)
 
 -- ---- what they begin with

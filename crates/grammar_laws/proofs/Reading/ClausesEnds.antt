@@ -98,7 +98,8 @@ expression_no_point r e = first_true (not_delimiter (codes ".") r) (not_delimite
 
 pub expression_no_bracket : (r : List Lexeme) → ends_expression r ≡ true → not_delimiter (codes "(") r ≡ true
 expression_no_bracket r e =
-    second_true (not_delimiter (codes "'") r) (not_delimiter (codes "(") r) (second_true (not_delimiter (codes ".") r) (not_delimiter (codes "'") r && not_delimiter (codes "(") r) (expression_designated r e))
+    second_true (not_delimiter (codes "'") r) (not_delimiter (codes "(") r)
+    (second_true (not_delimiter (codes ".") r) (not_delimiter (codes "'") r && not_delimiter (codes "(") r) (expression_designated r e))
 
 pub subtype_expression : (r : List Lexeme) → ends_subtype r ≡ true → ends_expression r ≡ true
 subtype_expression r e = first_true (ends_expression r) (not_word (codes "range") r) e
@@ -115,14 +116,16 @@ stop_optional test wa one None ls r l end = subst (λ (z : List Lexeme). test z 
 stop_optional test wa one (Some a) ls r l end = one a ls r l
 
 -- a word that may be missing before the rest
-pub stop_flag : (test : List Lexeme → Bool) (b : Bool) (ws w : List Written) → ((ls r : List Lexeme) → Leads (ws ++ w) ls r → test ls ≡ true) → ((ls r : List Lexeme) → Leads w ls r → test ls ≡ true)
+pub stop_flag : (test : List Lexeme → Bool) (b : Bool) (ws w : List Written) → ((ls r : List Lexeme) → Leads (ws ++ w) ls r → test ls ≡ true)
+    → ((ls r : List Lexeme) → Leads w ls r → test ls ≡ true)
     → (ls r : List Lexeme) → Leads (flag b ws ++ w) ls r → test ls ≡ true
 stop_flag test true ws w one rest ls r l = one ls r l
 stop_flag test false ws w one rest ls r l = rest ls r l
 
 -- ---- an identifier is no reserved word and no delimiter
 
-pub identifier_no_word : (text : List ℕ) → ((p : Place) (ls : List Lexeme) → sees_identifier (record { kind = kinds.Word; text = text; place = p } ∷ ls) ≡ false)
+pub identifier_no_word : (text : List ℕ)
+    → ((p : Place) (ls : List Lexeme) → sees_identifier (record { kind = kinds.Word; text = text; place = p } ∷ ls) ≡ false)
     → (ls : List Lexeme) → sees_identifier ls ≡ true → not_word text ls ≡ true
 identifier_no_word text reserved ls e = by_test (sees_word text ls) refl
   where
@@ -171,7 +174,8 @@ unfolding starts is_reserved
 identifier_no_exception ls e = identifier_no_word (codes "exception") (λ p ls. refl) ls e
 
 -- a list with what opens and closes it, or nothing, before the rest
-pub stop_enclosed : {A : Type 0} (test : List Lexeme → Bool) (v : Bool) (opening separator : Written) (closing : List Written) (wa : A → List Written) (w : List Written)
+pub stop_enclosed : {A : Type 0} (test : List Lexeme → Bool) (v : Bool) (opening separator : Written) (closing : List Written) (wa : A → List Written)
+    (w : List Written)
     → ((l : Lexeme) (ls : List Lexeme) → test (as_written opening l ∷ ls) ≡ v) → ((ls r : List Lexeme) → Leads w ls r → test ls ≡ v)
     → (xs : List A) (ls r : List Lexeme) → Leads (enclosed opening separator closing wa xs ++ w) ls r → test ls ≡ v
 stop_enclosed test v opening separator closing wa w on rest [] ls r l = rest ls r l

@@ -19,17 +19,22 @@ use Rattle.ada_tree.specs.declared.declarations.ProtectedOperation.{ProtectedOpe
 use Rattle.ada_tree.specs.declared.declarations.ProtectedOperation.TheVariants as operations
 use Rattle.ada_tree.specs.Written.{Written, Lexeme, word, word_at, delimiter, identifier_written, optional, end_name_written}
 use Rattle.ada_tree.specs.SpellingStatements.{semicolon, parameters_written}
-use Rattle.ada_tree.specs.SpellingDeclarations.{component_written, aspects_written, specification_written, entry_written, task_definition_written, type_flag, operation_written, private_written}
+use Rattle.ada_tree.specs.SpellingDeclarations.{component_written, aspects_written, specification_written, entry_written}
+use Rattle.ada_tree.specs.SpellingDeclarations.{task_definition_written, type_flag, operation_written, private_written}
 use Rattle.ada_tree.specs.ShapeExpressions.{optional_fits}
-use Rattle.ada_tree.specs.ShapeDeclarations.{aspects_fit, specification_fits, entry_fits, task_definition_fits, task_fits, operation_fits, private_fits, protected_fits}
+use Rattle.ada_tree.specs.ShapeDeclarations.{aspects_fit, specification_fits, entry_fits, task_definition_fits}
+use Rattle.ada_tree.specs.ShapeDeclarations.{task_fits, operation_fits, private_fits, protected_fits}
 use Rattle.ada_grammar.specs.Reading.{◌>>=◌, pure, starts, sees_word, sees_identifier, flag_of, end_name_of, items_of}
-use Rattle.ada_grammar.specs.ReadingDeclarations.{component_of, aspects_of, specification_of, entry_of, task_definition_of, task_of, specified_operation_of, operation_of, begins_operation, private_of, protected_of}
+use Rattle.ada_grammar.specs.ReadingDeclarations.{component_of, aspects_of, specification_of, entry_of, task_definition_of, task_of}
+use Rattle.ada_grammar.specs.ReadingDeclarations.{specified_operation_of, operation_of, begins_operation, private_of, protected_of}
 use Rattle.grammar_laws.specs.Leads.{Leads}
 use Rattle.grammar_laws.proofs.Reading.Leading.{as_written, leads_through}
-use Rattle.grammar_laws.proofs.Reading.Exact.{done, Rest, Any, itself, Exact, first_true, second_true, field, plain, narrower, closing, first_is, first_optional, optionally, listed}
+use Rattle.grammar_laws.proofs.Reading.Exact.{done, Rest, Any, itself, Exact, first_true, second_true, field, plain}
+use Rattle.grammar_laws.proofs.Reading.Exact.{narrower, closing, first_is, first_optional, optionally, listed}
 use Rattle.grammar_laws.proofs.Reading.Tokens.{always, shapeless, not_word, word_then, flag_exact, sees_word_first, sees_identifier_first}
 use Rattle.grammar_laws.proofs.Reading.Choices.{Sound, either, one_form}
-use Rattle.grammar_laws.proofs.Reading.ClausesEnds.{ends_operations, ends_specification, ends_aspects, ends_task_definition, ends_private, not_identifier, identifier_no_type}
+use Rattle.grammar_laws.proofs.Reading.ClausesEnds.{ends_operations, ends_specification, ends_aspects}
+use Rattle.grammar_laws.proofs.Reading.ClausesEnds.{ends_task_definition, ends_private, not_identifier, identifier_no_type}
 use Rattle.grammar_laws.proofs.Reading.ClausesSteps.{delimiter_ends, field_before, last_before, plain_before, identifier_kept, end_name_exact, respelt_by}
 use Rattle.grammar_laws.proofs.Reading.ClausesTypes.{components_exact}
 use Rattle.grammar_laws.proofs.Reading.ClausesSpecifications.{aspects_exact, specification_exact, specification_first, entry_exact, entry_begins}
@@ -49,15 +54,21 @@ abbrev some_definition : TaskDefinition → Option TaskDefinition
 some_definition d = Some d
 
 -- ["is" {entry} "end" [NAME]]
-pub task_definition_exact : (left : ℕ) (name : Identifier) → Exact (optional (task_definition_written name)) (optional_fits (task_definition_fits left)) (ends_task_definition name) (task_definition_of left name.text)
+pub task_definition_exact : (left : ℕ) (name : Identifier)
+    → Exact (optional (task_definition_written name)) (optional_fits (task_definition_fits left)) (ends_task_definition name)
+    (task_definition_of left name.text)
 unfolding task_definition_of starts
 task_definition_exact left name =
     optionally (sees_word (codes "is")) (task_definition_written name) (task_definition_fits left) (ends_task_definition name) _
     (word_then some_definition Any _ _ (ends_task_definition name) (codes "is") _
-    (last_before some_definition Any (word (codes "end")) (λ d. end_name_written d.named_at_end name) (ends_task_definition name) (λ d. d.entries) (flat_map entry_written) (list_all (entry_fits left)) not_entry (items_of (sees_word (codes "entry")) (entry_of left)) _ (entries_exact left) (λ l ls. refl)
+    (last_before some_definition Any (word (codes "end")) (λ d. end_name_written d.named_at_end name) (ends_task_definition name) (λ d. d.entries)
+    (flat_map entry_written) (list_all (entry_fits left)) not_entry (items_of (sees_word (codes "entry")) (entry_of left)) _ (entries_exact left)
+    (λ l ls. refl)
     (λ entries. word_then some_definition _ _ _ (ends_task_definition name) (codes "end") _
-    (closing some_definition _ (ends_task_definition name) (λ d. d.named_at_end) (λ b. end_name_written b name) shapeless (end_name_of name.text) (λ named. record { entries = entries; named_at_end = named })
-    (narrower itself Any (λ b. end_name_written b name) shapeless (not_word name.text) (ends_task_definition name) (end_name_of name.text) (end_name_exact name) (λ r e. second_true (not_word (codes "is") r) (not_word name.text r) e))
+    (closing some_definition _ (ends_task_definition name) (λ d. d.named_at_end) (λ b. end_name_written b name) shapeless (end_name_of name.text)
+    (λ named. record { entries = entries; named_at_end = named })
+    (narrower itself Any (λ b. end_name_written b name) shapeless (not_word name.text) (ends_task_definition name) (end_name_of name.text) (end_name_exact name)
+    (λ r e. second_true (not_word (codes "is") r) (not_word name.text r) e))
     (λ b. (tt, refl)) (λ b. refl) (λ b d p e. rw (p.1, e) refl)))))
     (λ d ls r l. sees_word_first (codes "is") (flat_map entry_written d.entries ++ word (codes "end") ∷ end_name_written d.named_at_end name) ls r l)
     (λ r e. not-true (sees_word (codes "is") r) (first_true (not_word (codes "is") r) (not_word name.text r) e))
@@ -76,20 +87,29 @@ before_definition : (t : TaskDeclaration) (ls r : List Lexeme) → Leads (defini
 unfolding starts
 before_definition t ls r l =
     first_optional ends_aspects true (task_definition_written t.name) semicolon
-    (λ d ls m l. first_is ends_aspects true (word (codes "is")) (λ l ls. refl) (flat_map entry_written d.entries ++ word (codes "end") ∷ end_name_written d.named_at_end t.name) ls m l)
+    (λ d ls m l. first_is ends_aspects true (word (codes "is")) (λ l ls. refl)
+    (flat_map entry_written d.entries ++ word (codes "end") ∷ end_name_written d.named_at_end t.name) ls m l)
     (λ ls r l. first_is ends_aspects true (delimiter (codes ";")) (λ l ls. refl) [] ls r l) t.definition ls r l
 
-pub task_exact : (left : ℕ) (place : Place) → Rest {X = Declaration Sequence} (λ (t : TaskDeclaration). declarations.Task t) (λ t. Any t × (place ≡ t.place)) task_behind (task_fits left) always (task_of left place)
+pub task_exact : (left : ℕ) (place : Place)
+    → Rest {X = Declaration Sequence} (λ (t : TaskDeclaration). declarations.Task t) (λ t. Any t × (place ≡ t.place)) task_behind (task_fits left) always
+    (task_of left place)
 unfolding task_of starts
 task_exact left place =
-    plain task_made (λ t. Any t × (place ≡ t.place)) (λ t. identifier_written t.name ∷ (aspects_written t.aspects ++ definition_behind t)) _ always (λ t. t.is_type) type_flag shapeless (not_word (codes "type")) (flag_of (codes "type")) _ (flag_exact (codes "type")) (λ a. refl)
+    plain task_made (λ t. Any t × (place ≡ t.place)) (λ t. identifier_written t.name ∷ (aspects_written t.aspects ++ definition_behind t)) _ always
+    (λ t. t.is_type) type_flag shapeless (not_word (codes "type")) (flag_of (codes "type")) _ (flag_exact (codes "type")) (λ a. refl)
     (λ t ls r p l end. identifier_no_type ls (sees_identifier_first t.name (aspects_written t.aspects ++ definition_behind t) ls r l))
     (λ is_type. identifier_kept task_made _ (λ t. aspects_written t.aspects ++ definition_behind t) _ always (λ t. t.name) _
-    (λ name. field task_made _ definition_behind (λ t. optional_fits (task_definition_fits left) t.definition) always (λ t. t.aspects) aspects_written (aspects_fit left) ends_aspects (aspects_of left) _ (aspects_exact left)
+    (λ name. field task_made _ definition_behind (λ t. optional_fits (task_definition_fits left) t.definition) always (λ t. t.aspects) aspects_written
+    (aspects_fit left) ends_aspects (aspects_of left) _ (aspects_exact left)
     (λ t ls r p l end. before_definition t ls r l)
-    (λ aspects. respelt_by task_made _ (λ t. optional (task_definition_written name) t.definition ++ semicolon) definition_behind (λ t. optional_fits (task_definition_fits left) t.definition) always _
-    (last_before task_made _ (delimiter (codes ";")) _ always (λ t. t.definition) (optional (task_definition_written name)) (optional_fits (task_definition_fits left)) (ends_task_definition name) (task_definition_of left name.text) _ (task_definition_exact left name) (λ l ls. refl)
-    (λ definition. delimiter_ends task_made _ (codes ";") (record { place = place; is_type = is_type; name = name; aspects = aspects; definition = definition }) (((((tt, refl), refl), refl), refl), refl)
+    (λ aspects. respelt_by task_made _ (λ t. optional (task_definition_written name) t.definition ++ semicolon) definition_behind
+    (λ t. optional_fits (task_definition_fits left) t.definition) always _
+    (last_before task_made _ (delimiter (codes ";")) _ always (λ t. t.definition) (optional (task_definition_written name))
+    (optional_fits (task_definition_fits left)) (ends_task_definition name) (task_definition_of left name.text) _ (task_definition_exact left name)
+    (λ l ls. refl)
+    (λ definition. delimiter_ends task_made _ (codes ";") (record { place = place; is_type = is_type; name = name; aspects = aspects; definition = definition })
+    (((((tt, refl), refl), refl), refl), refl)
     (λ j p. rw (p.0.0.0.0.1, p.0.0.0.1, p.0.0.1, p.0.1, p.1) refl)))
     (λ t p. rw (p.0.1) refl))))
 
@@ -102,12 +122,15 @@ abbrev subprogram_operation : SubprogramSpecification → ProtectedOperation
 subprogram_operation s = operations.Subprogram s
 
 entry_operation_exact : (left : ℕ) → Rest entry_operation Any entry_written (entry_fits left) always (entry_of left >>= λ entry. pure (operations.Entry entry))
-entry_operation_exact left = closing entry_operation Any always itself entry_written (entry_fits left) (entry_of left) itself (entry_exact left) (λ e. tt) (λ e. refl) (λ e i p q. q)
+entry_operation_exact left =
+    closing entry_operation Any always itself entry_written (entry_fits left) (entry_of left) itself (entry_exact left) (λ e. tt) (λ e. refl) (λ e i p q. q)
 
-subprogram_operation_exact : (left : ℕ) → Rest subprogram_operation Any (λ s. specification_written s ++ semicolon) (specification_fits left) always (specified_operation_of left)
+subprogram_operation_exact : (left : ℕ)
+    → Rest subprogram_operation Any (λ s. specification_written s ++ semicolon) (specification_fits left) always (specified_operation_of left)
 unfolding specified_operation_of starts
 subprogram_operation_exact left =
-    last_before subprogram_operation Any (delimiter (codes ";")) (λ s. []) always itself specification_written (specification_fits left) ends_specification (specification_of left) _ (specification_exact left) (λ l ls. refl)
+    last_before subprogram_operation Any (delimiter (codes ";")) (λ s. []) always itself specification_written (specification_fits left) ends_specification
+    (specification_of left) _ (specification_exact left) (λ l ls. refl)
     (λ s. delimiter_ends subprogram_operation _ (codes ";") s (tt, refl) (λ j p. p.1))
 
 operation_sound : (left : ℕ) → Sound itself operation_written (operation_fits left) (operation_of left)
@@ -116,15 +139,18 @@ operation_sound left =
     either (sees_word (codes "entry")) (one_form entry_operation (entry_operation_exact left) (λ e. refl) (λ e. refl))
     (one_form subprogram_operation (subprogram_operation_exact left) (λ s. refl) (λ s. refl))
 
-no_entry : (s : SubprogramSpecification) (w : List Written) (ls r : List Lexeme) → Leads (specification_written s ++ w) ls r → sees_word (codes "entry") ls ≡ false
+no_entry : (s : SubprogramSpecification) (w : List Written) (ls r : List Lexeme) → Leads (specification_written s ++ w) ls r
+    → sees_word (codes "entry") ls ≡ false
 unfolding starts
 no_entry s w ls r l =
     let t = leads_through (specification_written s) w ls r l in
     specification_first (sees_word (codes "entry")) false (λ p l ls. refl) (λ p l ls. refl) (λ p l ls. refl) s ls t.middle t.first
 
-operation_complete : (left : ℕ) (o : ProtectedOperation) (ls r : List Lexeme) → operation_fits left o ≡ true → Leads (operation_written o) ls r → operation_of left ls ≡ done o r
+operation_complete : (left : ℕ) (o : ProtectedOperation) (ls r : List Lexeme) → operation_fits left o ≡ true → Leads (operation_written o) ls r
+    → operation_of left ls ≡ done o r
 unfolding operation_of
-operation_complete left (operations.Subprogram s) ls r okay l = rw (no_entry s semicolon ls r l) ((subprogram_operation_exact left).complete s ls r tt okay l refl)
+operation_complete left (operations.Subprogram s) ls r okay l =
+    rw (no_entry s semicolon ls r l) ((subprogram_operation_exact left).complete s ls r tt okay l refl)
 operation_complete left (operations.Entry e) ls r okay l = rw (entry_begins e ls r l) ((entry_operation_exact left).complete e ls r tt okay l refl)
 
 pub operation_exact : (left : ℕ) → Exact operation_written (operation_fits left) always (operation_of left)
@@ -147,7 +173,8 @@ pub operation_begins : (o : ProtectedOperation) (ls r : List Lexeme) → Leads (
 unfolding starts
 operation_begins o ls r l = operation_first begins_operation true (λ p l ls. refl) (λ p l ls. refl) (λ p l ls. refl) (λ p l ls. refl) o ls r l
 
-pub operations_exact : (left : ℕ) → Exact (flat_map operation_written) (list_all (operation_fits left)) ends_operations (items_of begins_operation (operation_of left))
+pub operations_exact : (left : ℕ)
+    → Exact (flat_map operation_written) (list_all (operation_fits left)) ends_operations (items_of begins_operation (operation_of left))
 unfolding starts
 operations_exact left =
     listed begins_operation operation_written (operation_fits left) always ends_operations (operation_of left) (operation_exact left) operation_begins refl
@@ -164,7 +191,8 @@ private_exact left =
     optionally (sees_word (codes "private")) private_written (private_fits left) ends_private _
     (word_then some_private Any (flat_map component_written) (private_fits left) ends_private (codes "private") _
     (closing some_private Any ends_private itself (flat_map component_written) (private_fits left) (items_of sees_identifier (component_of left)) itself
-    (narrower itself Any (flat_map component_written) (private_fits left) not_identifier ends_private (items_of sees_identifier (component_of left)) (components_exact left) (λ r e. second_true (not_word (codes "private") r) (not_identifier r) e))
+    (narrower itself Any (flat_map component_written) (private_fits left) not_identifier ends_private (items_of sees_identifier (component_of left))
+    (components_exact left) (λ r e. second_true (not_word (codes "private") r) (not_identifier r) e))
     (λ xs. tt) (λ xs. refl) (λ xs i p e. e)))
     (λ xs ls r l. sees_word_first (codes "private") (flat_map component_written xs) ls r l)
     (λ r e. not-true (sees_word (codes "private") r) (first_true (not_word (codes "private") r) (not_identifier r) e))
@@ -195,22 +223,38 @@ behind_operations p ls r l =
     (λ xs ls m l. first_is ends_operations true (word (codes "private")) (λ l ls. refl) (flat_map component_written xs) ls m l)
     (λ ls r l. first_is ends_operations true (word (codes "end")) (λ l ls. refl) (end_behind p) ls r l) p.components ls r l
 
-pub protected_exact : (left : ℕ) (place : Place) → Rest {X = Declaration Sequence} (λ (p : ProtectedDeclaration). declarations.Protected p) (λ p. Any p × (place ≡ p.place)) protected_behind (protected_fits left) always (protected_of left place)
+pub protected_exact : (left : ℕ) (place : Place)
+    → Rest {X = Declaration Sequence} (λ (p : ProtectedDeclaration). declarations.Protected p) (λ p. Any p × (place ≡ p.place)) protected_behind
+    (protected_fits left) always (protected_of left place)
 unfolding protected_of starts is_reserved
 protected_exact left place =
-    plain protected_made (λ p. Any p × (place ≡ p.place)) (λ p. identifier_written p.name ∷ aspects_behind p) _ always (λ p. p.is_type) type_flag shapeless (not_word (codes "type")) (flag_of (codes "type")) _ (flag_exact (codes "type")) (λ a. refl)
+    plain protected_made (λ p. Any p × (place ≡ p.place)) (λ p. identifier_written p.name ∷ aspects_behind p) _ always (λ p. p.is_type) type_flag shapeless
+    (not_word (codes "type")) (flag_of (codes "type")) _ (flag_exact (codes "type")) (λ a. refl)
     (λ p ls r q l end. identifier_no_type ls (sees_identifier_first p.name (aspects_behind p) ls r l))
     (λ is_type. identifier_kept protected_made _ aspects_behind _ always (λ p. p.name) _
-    (λ name. field_before protected_made _ (word (codes "is")) operations_behind always (λ p. p.aspects) aspects_written (aspects_fit left) ends_aspects (aspects_of left) _ (aspects_exact left) (λ l ls. refl)
+    (λ name. field_before protected_made _ (word (codes "is")) operations_behind always (λ p. p.aspects) aspects_written (aspects_fit left) ends_aspects
+    (aspects_of left) _ (aspects_exact left) (λ l ls. refl)
     (λ p. list_all (operation_fits left) p.operations && optional_fits (private_fits left) p.components)
     (λ aspects. word_then protected_made _ operations_behind _ always (codes "is") _
-    (field protected_made _ private_behind (λ p. optional_fits (private_fits left) p.components) always (λ p. p.operations) (flat_map operation_written) (list_all (operation_fits left)) ends_operations (items_of begins_operation (operation_of left)) _ (operations_exact left)
+    (field protected_made _ private_behind (λ p. optional_fits (private_fits left) p.components) always (λ p. p.operations) (flat_map operation_written)
+    (list_all (operation_fits left)) ends_operations (items_of begins_operation (operation_of left)) _ (operations_exact left)
     (λ p ls r q l end. behind_operations p ls r l)
-    (λ named_operations. last_before protected_made _ (word (codes "end")) end_behind always (λ p. p.components) (optional private_written) (optional_fits (private_fits left)) ends_private (private_of left) _ (private_exact left) (λ l ls. refl)
+    (λ named_operations. last_before protected_made _ (word (codes "end")) end_behind always (λ p. p.components) (optional private_written)
+    (optional_fits (private_fits left)) ends_private (private_of left) _ (private_exact left) (λ l ls. refl)
     (λ components. word_then protected_made _ end_behind _ always (codes "end") _
     (respelt_by protected_made _ (λ p. end_name_written p.named_at_end name ++ semicolon) end_behind (λ p. true) always _
-    (plain_before protected_made _ (delimiter (codes ";")) _ always (λ p. p.named_at_end) (λ b. end_name_written b name) shapeless (not_word name.text) (end_name_of name.text) _ (end_name_exact name) (λ l ls. refl) _ (λ b. refl)
-    (λ named. delimiter_ends protected_made _ (codes ";") (record { place = place; is_type = is_type; name = name; aspects = aspects; operations = named_operations; components = components; named_at_end = named })
+    (plain_before protected_made _ (delimiter (codes ";")) _ always (λ p. p.named_at_end) (λ b. end_name_written b name) shapeless (not_word name.text)
+    (end_name_of name.text) _ (end_name_exact name) (λ l ls. refl) _ (λ b. refl)
+    (λ named. delimiter_ends protected_made _ (codes ";")
+    (record {
+      place = place;
+      is_type = is_type;
+      name = name;
+      aspects = aspects;
+      operations = named_operations;
+      components = components;
+      named_at_end = named;
+    })
     (((((((tt, refl), refl), refl), refl), refl), refl), refl)
     (λ j p. rw (p.0.0.0.0.0.0.1, p.0.0.0.0.0.1, p.0.0.0.0.1, p.0.0.0.1, p.0.0.1, p.0.1, p.1) refl)))
     (λ p q. rw (q.0.0.0.1) refl))))))))

@@ -15,7 +15,8 @@ use Rattle.ada_tree.specs.declared.expressions.Expression.TheViews.{out-Expressi
 use Rattle.ada_tree.specs.declared.expressions.ExpressionForm.{ExpressionForm}
 use Rattle.ada_tree.specs.declared.expressions.ExpressionForm.TheVariants as form
 use Rattle.ada_tree.specs.Written.{Written, Lexeme, word_at, delimiter, delimiter_at, number_at, text_at, all_written, behind, optional, one_identifier}
-use Rattle.ada_tree.specs.SpellingExpressions.{logical_written, relational_text, sign_text, highest_text, designator_written, arguments_written, operand_written, addend_written, multiplied_written, form_written, expression_written}
+use Rattle.ada_tree.specs.SpellingExpressions.{logical_written, relational_text, sign_text, highest_text, designator_written, arguments_written}
+use Rattle.ada_tree.specs.SpellingExpressions.{operand_written, addend_written, multiplied_written, form_written, expression_written}
 use Rattle.ada_tree.proofs.ExpressionFolds.{expression_is_written}
 use Rattle.ada_grammar.specs.Reading.{sees_identifier, starts}
 use Rattle.grammar_laws.specs.Leads.{Leads}
@@ -45,26 +46,38 @@ module _ (test : List Lexeme → Bool) (v : Bool)
   OfAll fuel = (e : Expression) (ls m : List Lexeme) → length ls < fuel + length m → Leads (expression_written e) ls m → test ls ≡ v
 
   -- the first part is shorter
-  by_first : (fuel : ℕ) → OfAll fuel → (e : Expression) (w : List Written) (ls m : List Lexeme) → 1 ≤ length w → length ls < suc fuel + length m → Leads (expression_written e ++ w) ls m → test ls ≡ v
+  by_first : (fuel : ℕ) → OfAll fuel → (e : Expression) (w : List Written) (ls m : List Lexeme) → 1 ≤ length w → length ls < suc fuel + length m
+      → Leads (expression_written e ++ w) ls m → test ls ≡ v
   by_first fuel all e w ls m some enough l =
       let t = leads_through (expression_written e) w ls m l in
       all e ls t.middle (omega (arith, enough, some, leads_length w t.middle m t.second)) t.first
 
-  by_form : (fuel : ℕ) → OfAll fuel → (f : ExpressionForm Expression) (ls m : List Lexeme) → length ls < suc fuel + length m → Leads (form_written expression_written f) ls m → test ls ≡ v
+  by_form : (fuel : ℕ) → OfAll fuel → (f : ExpressionForm Expression) (ls m : List Lexeme) → length ls < suc fuel + length m
+      → Leads (form_written expression_written f) ls m → test ls ≡ v
   by_form fuel all (form.Logical operator first others) ls m enough l =
       by_first fuel all first (all_written (operand_written expression_written operator) others) ls m
-      (logical_takes operator others.first.place (expression_written others.first.relation) (flat_map (operand_written expression_written operator) others.others)) enough l
-  by_form fuel all (form.Relational first place operator second) ls m enough l = by_first fuel all first (delimiter_at place (relational_text operator) ∷ expression_written second) ls m (omega arith) enough l
-  by_form fuel all (form.Adding first others) ls m enough l = by_first fuel all first (all_written (addend_written expression_written) others) ls m (omega arith) enough l
-  by_form fuel all (form.Signed place s operand) ls m enough l = first_is test v (delimiter_at place (sign_text s)) (λ l ls. signs s l.place ls) (expression_written operand) ls m l
-  by_form fuel all (form.Multiplying first others) ls m enough l = by_first fuel all first (all_written (multiplied_written expression_written) others) ls m (omega arith) enough l
-  by_form fuel all (form.Highest place o operand) ls m enough l = first_is test v (word_at place (highest_text o)) (λ l ls. operators o l.place ls) (expression_written operand) ls m l
+      (logical_takes operator others.first.place (expression_written others.first.relation)
+      (flat_map (operand_written expression_written operator) others.others)) enough l
+  by_form fuel all (form.Relational first place operator second) ls m enough l =
+      by_first fuel all first (delimiter_at place (relational_text operator) ∷ expression_written second) ls m (omega arith) enough l
+  by_form fuel all (form.Adding first others) ls m enough l =
+      by_first fuel all first (all_written (addend_written expression_written) others) ls m (omega arith) enough l
+  by_form fuel all (form.Signed place s operand) ls m enough l =
+      first_is test v (delimiter_at place (sign_text s)) (λ l ls. signs s l.place ls) (expression_written operand) ls m l
+  by_form fuel all (form.Multiplying first others) ls m enough l =
+      by_first fuel all first (all_written (multiplied_written expression_written) others) ls m (omega arith) enough l
+  by_form fuel all (form.Highest place o operand) ls m enough l =
+      first_is test v (word_at place (highest_text o)) (λ l ls. operators o l.place ls) (expression_written operand) ls m l
   by_form fuel all (form.Number place literal) ls m enough l = first_is test v (number_at place literal) (λ l ls. numbers literal l.place ls) [] ls m l
   by_form fuel all (form.Text place text) ls m enough l = first_is test v (text_at place text) (λ l ls. texts text l.place ls) [] ls m l
   by_form fuel all (form.Null place) ls m enough l = first_is test v (word_at place (codes "null")) (λ l ls. nulls l.place ls) [] ls m l
-  by_form fuel all (form.Bracketed place inner) ls m enough l = first_is test v (delimiter_at place (codes "(")) (λ l ls. brackets l.place ls) (expression_written inner ++ delimiter (codes ")") ∷ []) ls m l
+  by_form fuel all (form.Bracketed place inner) ls m enough l =
+      first_is test v (delimiter_at place (codes "(")) (λ l ls. brackets l.place ls) (expression_written inner ++ delimiter (codes ")") ∷ []) ls m l
   by_form fuel all (form.Named name attribute arguments) ls m enough l =
-      identifiers ls (sees_identifier_first name.parts.first (flat_map (behind (delimiter (codes ".")) one_identifier) name.parts.others ++ (optional designator_written attribute ++ arguments_written expression_written arguments)) ls m l)
+      identifiers ls
+      (sees_identifier_first name.parts.first
+      (flat_map (behind (delimiter (codes ".")) one_identifier) name.parts.others
+      ++ (optional designator_written attribute ++ arguments_written expression_written arguments)) ls m l)
 
   of_all : (fuel : ℕ) → OfAll fuel
   of_all zero e ls m enough l = absurd (omega (arith, enough, leads_length (expression_written e) ls m l))
@@ -81,41 +94,50 @@ module _ (test : List Lexeme → Bool) (v : Bool)
 pub value_is_no_until : (e : Expression) (ls r : List Lexeme) → Leads (expression_written e) ls r → not_word (codes "until") ls ≡ true
 unfolding starts is_reserved
 value_is_no_until e ls r l =
-    value_begins (not_word (codes "until")) true (λ ls e. identifier_no_word (codes "until") (λ p ls. refl) ls e) (λ t p ls. refl) (λ t p ls. refl) (λ p ls. refl) (λ p ls. refl) (λ s p ls. refl) no_operator e ls r l
+    value_begins (not_word (codes "until")) true (λ ls e. identifier_no_word (codes "until") (λ p ls. refl) ls e) (λ t p ls. refl) (λ t p ls. refl)
+    (λ p ls. refl) (λ p ls. refl) (λ s p ls. refl) no_operator e ls r l
   where
-    no_operator : (o : HighestOperator) (p : Place) (ls : List Lexeme) → not_word (codes "until") (record { kind = kinds.Word; text = highest_text o; place = p } ∷ ls) ≡ true
+    no_operator : (o : HighestOperator) (p : Place) (ls : List Lexeme)
+        → not_word (codes "until") (record { kind = kinds.Word; text = highest_text o; place = p } ∷ ls) ≡ true
     no_operator highest.Absolute p ls = refl
     no_operator highest.Not p ls = refl
 
 pub value_is_no_reverse : (e : Expression) (ls r : List Lexeme) → Leads (expression_written e) ls r → not_word (codes "reverse") ls ≡ true
 unfolding starts is_reserved
 value_is_no_reverse e ls r l =
-    value_begins (not_word (codes "reverse")) true (λ ls e. identifier_no_word (codes "reverse") (λ p ls. refl) ls e) (λ t p ls. refl) (λ t p ls. refl) (λ p ls. refl) (λ p ls. refl) (λ s p ls. refl) no_operator e ls r l
+    value_begins (not_word (codes "reverse")) true (λ ls e. identifier_no_word (codes "reverse") (λ p ls. refl) ls e) (λ t p ls. refl) (λ t p ls. refl)
+    (λ p ls. refl) (λ p ls. refl) (λ s p ls. refl) no_operator e ls r l
   where
-    no_operator : (o : HighestOperator) (p : Place) (ls : List Lexeme) → not_word (codes "reverse") (record { kind = kinds.Word; text = highest_text o; place = p } ∷ ls) ≡ true
+    no_operator : (o : HighestOperator) (p : Place) (ls : List Lexeme)
+        → not_word (codes "reverse") (record { kind = kinds.Word; text = highest_text o; place = p } ∷ ls) ≡ true
     no_operator highest.Absolute p ls = refl
     no_operator highest.Not p ls = refl
 
 pub value_is_no_others : (e : Expression) (ls r : List Lexeme) → Leads (expression_written e) ls r → not_word (codes "others") ls ≡ true
 unfolding starts is_reserved
 value_is_no_others e ls r l =
-    value_begins (not_word (codes "others")) true (λ ls e. identifier_no_word (codes "others") (λ p ls. refl) ls e) (λ t p ls. refl) (λ t p ls. refl) (λ p ls. refl) (λ p ls. refl) (λ s p ls. refl) no_operator e ls r l
+    value_begins (not_word (codes "others")) true (λ ls e. identifier_no_word (codes "others") (λ p ls. refl) ls e) (λ t p ls. refl) (λ t p ls. refl)
+    (λ p ls. refl) (λ p ls. refl) (λ s p ls. refl) no_operator e ls r l
   where
-    no_operator : (o : HighestOperator) (p : Place) (ls : List Lexeme) → not_word (codes "others") (record { kind = kinds.Word; text = highest_text o; place = p } ∷ ls) ≡ true
+    no_operator : (o : HighestOperator) (p : Place) (ls : List Lexeme)
+        → not_word (codes "others") (record { kind = kinds.Word; text = highest_text o; place = p } ∷ ls) ≡ true
     no_operator highest.Absolute p ls = refl
     no_operator highest.Not p ls = refl
 
 pub value_is_no_semicolon : (e : Expression) (ls r : List Lexeme) → Leads (expression_written e) ls r → not_delimiter (codes ";") ls ≡ true
 unfolding starts
 value_is_no_semicolon e ls r l =
-    value_begins (not_delimiter (codes ";")) true (λ ls e. identifier_no_delimiter (codes ";") ls e) (λ t p ls. refl) (λ t p ls. refl) (λ p ls. refl) (λ p ls. refl) no_sign (λ o p ls. refl) e ls r l
+    value_begins (not_delimiter (codes ";")) true (λ ls e. identifier_no_delimiter (codes ";") ls e) (λ t p ls. refl) (λ t p ls. refl) (λ p ls. refl)
+    (λ p ls. refl) no_sign (λ o p ls. refl) e ls r l
   where
-    no_sign : (s : Sign) (p : Place) (ls : List Lexeme) → not_delimiter (codes ";") (record { kind = kinds.Delimiter; text = sign_text s; place = p } ∷ ls) ≡ true
+    no_sign : (s : Sign) (p : Place) (ls : List Lexeme)
+        → not_delimiter (codes ";") (record { kind = kinds.Delimiter; text = sign_text s; place = p } ∷ ls) ≡ true
     no_sign sign.Plus p ls = refl
     no_sign sign.Minus p ls = refl
 
 -- before the rest
-value_before : (test : List Lexeme → Bool) (e : Expression) → ((ls r : List Lexeme) → Leads (expression_written e) ls r → test ls ≡ true) → (w : List Written) (ls r : List Lexeme) → Leads (expression_written e ++ w) ls r → test ls ≡ true
+value_before : (test : List Lexeme → Bool) (e : Expression) → ((ls r : List Lexeme) → Leads (expression_written e) ls r → test ls ≡ true)
+    → (w : List Written) (ls r : List Lexeme) → Leads (expression_written e ++ w) ls r → test ls ≡ true
 value_before test e one w ls r l = let t = leads_through (expression_written e) w ls r l in one ls t.middle t.first
 
 pub value_no_until : (e : Expression) (w : List Written) (ls r : List Lexeme) → Leads (expression_written e ++ w) ls r → not_word (codes "until") ls ≡ true

@@ -1,5 +1,6 @@
 -- Reading and writing agree, production by production: what is read is what is written, and what is written is read.
-use Rattle.std.proofs.Common.{◌≡◌, ℕ, zero, suc, ◌<◌, ◌≤◌, Bool, true, false, cond, ◌&&◌, ◌||◌, not, List, [], ◌∷◌, ◌++◌, length, Ok, Err, refl, sym, ap, subst, ◌∙◌, arith}
+use Rattle.std.proofs.Common.{◌≡◌, ℕ, zero, suc, ◌<◌, ◌≤◌, Bool, true, false, cond, ◌&&◌, ◌||◌, not}
+use Rattle.std.proofs.Common.{List, [], ◌∷◌, ◌++◌, length, Ok, Err, refl, sym, ap, subst, ◌∙◌, arith}
 use Rattle.std.specs.Prelude.{Option, Some, None, flat_map}
 use Rattle.std.specs.List.{list_all}
 use Rattle.std.proofs.Common.{append_assoc}
@@ -74,7 +75,8 @@ second_true true q e = e
 second_true false q e = absurd cc
 
 -- nothing is left
-pub ready : {X I : Type 0} (make : I → X) (P : I → Type 0) (ends : List Lexeme → Bool) (i : I) → P i → ((j : I) → P j → i ≡ j) → Rest make P (λ j. []) (λ j. true) ends (pure (make i))
+pub ready : {X I : Type 0} (make : I → X) (P : I → Type 0) (ends : List Lexeme → Bool) (i : I) → P i → ((j : I) → P j → i ≡ j)
+    → Rest make P (λ j. []) (λ j. true) ends (pure (make i))
 ready {X} {I} make P ends i p only = record {
   sound = λ ls x r e.
       let is = pair_of (make i) x ls r e in
@@ -120,7 +122,13 @@ fixed {X} {I} {A} make P w ok ends token pa k sound complete more = record {
   sound = λ ls x r e.
       let s = parts (pa ls) (λ a. k) x r e in
       let m = more.sound s.rest x r s.then in
-      record { item = m.item; is = m.is; fits = m.fits; leads = leads_both (token ∷ []) (w m.item) ls s.rest r (sound ls s.value s.rest s.is) m.leads; shaped = m.shaped };
+      record {
+        item = m.item;
+        is = m.is;
+        fits = m.fits;
+        leads = leads_both (token ∷ []) (w m.item) ls s.rest r (sound ls s.value s.rest s.is) m.leads;
+        shaped = m.shaped;
+      };
   complete = λ i ls r p o l end. from i ls r p o l end;
 }
   where
@@ -217,7 +225,9 @@ narrower make P w ok ends ends' p law less = record { sound = law.sound; complet
 pub respelt : {X I : Type 0} (make : I → X) (P : I → Type 0) (w w' : I → List Written) (ok : I → Bool) (ends : List Lexeme → Bool) (p : Parser X)
     → Rest make P w ok ends p → ((i : I) → w i ≡ w' i) → Rest make P w' ok ends p
 respelt make P w w' ok ends p law same = record {
-  sound = λ ls x r e. let f = law.sound ls x r e in record { item = f.item; is = f.is; fits = f.fits; leads = subst (λ (ws : List Written). Leads ws ls r) (same f.item) f.leads; shaped = f.shaped };
+  sound =
+      λ ls x r e. let f = law.sound ls x r e in
+      record { item = f.item; is = f.is; fits = f.fits; leads = subst (λ (ws : List Written). Leads ws ls r) (same f.item) f.leads; shaped = f.shaped };
   complete = λ i ls r q o l end. law.complete i ls r q o (subst (λ (ws : List Written). Leads ws ls r) (sym (same i)) l) end;
 }
 
@@ -233,7 +243,9 @@ reshaped make P w ok ok' ends p law same = record {
 pub respelt_where : {X I : Type 0} (make : I → X) (P : I → Type 0) (w w' : I → List Written) (ok : I → Bool) (ends : List Lexeme → Bool) (p : Parser X)
     → Rest make P w ok ends p → ((i : I) → P i → w i ≡ w' i) → Rest make P w' ok ends p
 respelt_where make P w w' ok ends p law same = record {
-  sound = λ ls x r e. let f = law.sound ls x r e in record { item = f.item; is = f.is; fits = f.fits; leads = subst (λ (ws : List Written). Leads ws ls r) (same f.item f.fits) f.leads; shaped = f.shaped };
+  sound =
+      λ ls x r e. let f = law.sound ls x r e in
+      record { item = f.item; is = f.is; fits = f.fits; leads = subst (λ (ws : List Written). Leads ws ls r) (same f.item f.fits) f.leads; shaped = f.shaped };
   complete = λ i ls r q o l end. law.complete i ls r q o (subst (λ (ws : List Written). Leads ws ls r) (sym (same i q)) l) end;
 }
 
@@ -290,11 +302,13 @@ optionally {A} begins wa oka ends p one begun other = record {
   complete = λ o ls r q okay l end. to o ls r okay l end;
 }
   where
-    from : (ls : List Lexeme) (x : Option A) (r : List Lexeme) (v : Bool) → cond {A = Read (Option A)} v (p ls) (done None ls) ≡ done x r → Found itself Any (optional wa) (optional_fits oka) x ls r
+    from : (ls : List Lexeme) (x : Option A) (r : List Lexeme) (v : Bool) → cond {A = Read (Option A)} v (p ls) (done None ls) ≡ done x r
+        → Found itself Any (optional wa) (optional_fits oka) x ls r
     from ls x r true e = let f = one.sound ls x r e in record { item = Some f.item; is = f.is; fits = tt; leads = f.leads; shaped = f.shaped }
     from ls x r false e = let is = pair_of None x ls r e in record { item = None; is = is.0; fits = tt; leads = is.1; shaped = refl }
 
-    to : (o : Option A) (ls r : List Lexeme) → optional_fits oka o ≡ true → Leads (optional wa o) ls r → ends r ≡ true → choose begins p (pure None) ls ≡ done o r
+    to : (o : Option A) (ls r : List Lexeme) → optional_fits oka o ≡ true → Leads (optional wa o) ls r → ends r ≡ true
+        → choose begins p (pure None) ls ≡ done o r
     to None ls r okay l end = rw (l, other r end) refl
     to (Some a) ls r okay l end = rw (begun a ls r l) (one.complete a ls r tt okay l end)
 
@@ -316,7 +330,8 @@ module _ {A : Type 0} (begins : List Lexeme → Bool) (w : A → List Written) (
   none_more : (found xs : List A) (ls r : List Lexeme) → done found ls ≡ done xs r → More found xs ls r
   none_more found xs ls r e = let is = pair_of found xs ls r e in record { items = []; is = append_nil found ∙ is.0; leads = is.1; shaped = refl }
 
-  items_sound : (fuel : ℕ) (found : List A) (ls : List Lexeme) (xs : List A) (r : List Lexeme) → items_from begins item fuel found ls ≡ done xs r → More found xs ls r
+  items_sound : (fuel : ℕ) (found : List A) (ls : List Lexeme) (xs : List A) (r : List Lexeme) → items_from begins item fuel found ls ≡ done xs r
+      → More found xs ls r
   unfolding items_from
   items_sound zero found ls xs r e = none_more found xs ls r e
   items_sound (suc fuel) found ls xs r e = by_test (begins ls) e (λ y m q. items_sound fuel (found ++ y ∷ []) m xs r q)
@@ -358,7 +373,8 @@ module _ {A : Type 0} (begins : List Lexeme → Bool) (w : A → List Written) (
   behind_item [] m r l end = subst (λ (z : List Lexeme). ends_item z ≡ true) (sym l) (closed r end)
   behind_item (x ∷ xs) m r l end = let t = leads_through (w x) (flat_map w xs) m r l in apart m (begun x m t.middle t.first)
 
-  items_complete : (xs : List A) (fuel : ℕ) (found : List A) (ls r : List Lexeme) → length ls ≤ fuel → list_all ok xs ≡ true → Leads (flat_map w xs) ls r → ends r ≡ true
+  items_complete : (xs : List A) (fuel : ℕ) (found : List A) (ls r : List Lexeme) → length ls ≤ fuel → list_all ok xs ≡ true → Leads (flat_map w xs) ls r
+      → ends r ≡ true
       → items_from begins item fuel found ls ≡ done (found ++ xs) r
   unfolding items_from
   items_complete [] fuel found ls r enough okay l end = rw (l, append_nil found) (all_over fuel found r (over r end))
@@ -367,9 +383,11 @@ module _ {A : Type 0} (begins : List Lexeme → Bool) (w : A → List Written) (
       absurd (omega (arith, shorter x ls t.middle t.first))
   items_complete (x ∷ xs) (suc fuel) found ls r enough okay l end =
       let t = leads_through (w x) (flat_map w xs) ls r l in
-      let now : item ls ≡ done x t.middle = one.complete x ls t.middle tt (first_true (ok x) (list_all ok xs) okay) t.first (behind_item xs t.middle r t.second end) in
+      let now : item ls ≡ done x t.middle =
+      one.complete x ls t.middle tt (first_true (ok x) (list_all ok xs) okay) t.first (behind_item xs t.middle r t.second end) in
       rw (begun x ls t.middle t.first, now, sym (append_assoc found (x ∷ []) xs))
-      (items_complete xs fuel (found ++ x ∷ []) t.middle r (omega (arith, shorter x ls t.middle t.first)) (second_true (ok x) (list_all ok xs) okay) t.second end)
+      (items_complete xs fuel (found ++ x ∷ []) t.middle r (omega (arith, shorter x ls t.middle t.first))
+      (second_true (ok x) (list_all ok xs) okay) t.second end)
 
   pub listed : Exact (flat_map w) (list_all ok) ends (items_of begins item)
   unfolding items_of

@@ -20,10 +20,12 @@ unfolding inner_of
 inside_exact zero = tt
 inside_exact (suc left) = expression_exact left
 
-pub arguments_exact : (left : ℕ) → Exact (arguments_written expression_written) (arguments_fit expression_fits left) ends_arguments (arguments_of left (inner_of left))
+pub arguments_exact : (left : ℕ)
+    → Exact (arguments_written expression_written) (arguments_fit expression_fits left) ends_arguments (arguments_of left (inner_of left))
 arguments_exact left = arguments_read left (inner_of left) (inside_exact left)
 
 -- an argument in a bracket, behind which this many levels are left
-pub argument_exact_at : (left : ℕ) → Exact (argument_written expression_written) (argument_fits expression_fits left) ends_argument (argument_of (suc left) (inner_of (suc left)))
+pub argument_exact_at : (left : ℕ)
+    → Exact (argument_written expression_written) (argument_fits expression_fits left) ends_argument (argument_of (suc left) (inner_of (suc left)))
 unfolding inner_of
 argument_exact_at left = argument_exact left (expression_of left) (expression_exact left)

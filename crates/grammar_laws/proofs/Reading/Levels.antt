@@ -21,7 +21,8 @@ pub data Level (J : Type 0) (make : Expression → J → ExpressionForm Expressi
   Tighter : form_fits expression_fits f lower left ≡ true → Level J make lower left f
 
 module _ {J : Type 0} (left : ℕ) (upper lower : Precedence) (make : Expression → J → ExpressionForm Expression)
-    (w : J → List Written) (ok : J → Bool) (ends_lower ends : List Lexeme → Bool) (more : List Lexeme → Bool) (p : Parser Expression) (rest : Expression → Parser Expression)
+    (w : J → List Written) (ok : J → Bool) (ends_lower ends : List Lexeme → Bool) (more : List Lexeme → Bool) (p : Parser Expression)
+    (rest : Expression → Parser Expression)
     (one : Exact expression_written (λ e. expression_fits e lower left) ends_lower p)
     (behind : (first : Expression) → Rest (λ j. formed (make first j)) Any w ok ends (rest first))
     (written : (first : Expression) (j : J) → form_written expression_written (make first j) ≡ expression_written first ++ w j)
@@ -38,7 +39,8 @@ module _ {J : Type 0} (left : ℕ) (upper lower : Precedence) (make : Expression
   abbrev fits : ExpressionForm Expression → Bool
   fits f = form_fits expression_fits f upper left
 
-  alone : (first : Expression) (ls m : List Lexeme) (x : Expression) (r : List Lexeme) → Leads (expression_written first) ls m → expression_fits first lower left ≡ true → done first m ≡ done x r
+  alone : (first : Expression) (ls m : List Lexeme) (x : Expression) (r : List Lexeme) → Leads (expression_written first) ls m
+      → expression_fits first lower left ≡ true → done first m ≡ done x r
       → Found formed Any (form_written expression_written) fits x ls r
   alone first ls m x r l o e =
       let is = pair_of first x m r e in
@@ -48,7 +50,9 @@ module _ {J : Type 0} (left : ℕ) (upper lower : Precedence) (make : Expression
         item = f;
         is = again ∙ is.0;
         fits = tt;
-        leads = subst (λ (ws : List Written). Leads ws ls r) (sym (ap expression_written again) ∙ formed_is_written f) (subst (λ (z : List Lexeme). Leads (expression_written first) ls z) is.1 l);
+        leads =
+            subst (λ (ws : List Written). Leads ws ls r) (sym (ap expression_written again) ∙ formed_is_written f)
+            (subst (λ (z : List Lexeme). Leads (expression_written first) ls z) is.1 l);
         shaped = loosen f (sym (formed_is_fit f lower left) ∙ (ap (λ z. expression_fits z lower left) again ∙ o));
       }
 
@@ -56,9 +60,11 @@ module _ {J : Type 0} (left : ℕ) (upper lower : Precedence) (make : Expression
   level_sound ls x r e =
       let s = parts (p ls) (λ first. choose more (rest first) (pure first)) x r e in
       let a = one.sound ls s.value s.rest s.is in
-      by_test ls x r s.value s.rest (more s.rest) (subst (λ (z : Expression). Leads (expression_written z) ls s.rest) a.is a.leads) (subst (λ (z : Expression). expression_fits z lower left ≡ true) a.is a.shaped) s.then
+      by_test ls x r s.value s.rest (more s.rest) (subst (λ (z : Expression). Leads (expression_written z) ls s.rest) a.is a.leads)
+      (subst (λ (z : Expression). expression_fits z lower left ≡ true) a.is a.shaped) s.then
     where
-      by_test : (ls : List Lexeme) (x : Expression) (r : List Lexeme) (first : Expression) (m : List Lexeme) (v : Bool) → Leads (expression_written first) ls m → expression_fits first lower left ≡ true
+      by_test : (ls : List Lexeme) (x : Expression) (r : List Lexeme) (first : Expression) (m : List Lexeme) (v : Bool) → Leads (expression_written first) ls m
+          → expression_fits first lower left ≡ true
           → cond {A = Read Expression} v (rest first m) (done first m) ≡ done x r → Found formed Any (form_written expression_written) fits x ls r
       by_test ls x r first m true l o e =
           let f = (behind first).sound m x r e in
@@ -66,20 +72,26 @@ module _ {J : Type 0} (left : ℕ) (upper lower : Precedence) (make : Expression
             item = make first f.item;
             is = f.is;
             fits = tt;
-            leads = subst (λ (ws : List Written). Leads ws ls r) (sym (written first f.item)) (leads_both (expression_written first) (w f.item) ls m r l f.leads);
+            leads =
+                subst (λ (ws : List Written). Leads ws ls r) (sym (written first f.item)) (leads_both (expression_written first) (w f.item) ls m r l f.leads);
             shaped = shape first f.item ∙ both o f.shaped;
           }
       by_test ls x r first m false l o e = alone first ls m x r l o e
 
-  level_complete : (f : ExpressionForm Expression) (ls r : List Lexeme) → fits f ≡ true → Leads (form_written expression_written f) ls r → ends r ≡ true → whole ls ≡ done (formed f) r
+  level_complete : (f : ExpressionForm Expression) (ls r : List Lexeme) → fits f ≡ true → Leads (form_written expression_written f) ls r → ends r ≡ true
+      → whole ls ≡ done (formed f) r
   level_complete f ls r o l end = by_level f ls r (level f o) o l end
     where
-      by_level : (f : ExpressionForm Expression) (ls r : List Lexeme) → Level J make lower left f → fits f ≡ true → Leads (form_written expression_written f) ls r → ends r ≡ true → whole ls ≡ done (formed f) r
+      by_level : (f : ExpressionForm Expression) (ls r : List Lexeme) → Level J make lower left f → fits f ≡ true
+          → Leads (form_written expression_written f) ls r → ends r ≡ true → whole ls ≡ done (formed f) r
       by_level f ls r (This first j is) o l end =
           let o' : (expression_fits first lower left && ok j) ≡ true = sym (shape first j) ∙ (ap fits is ∙ o) in
-          let l' : Leads (expression_written first ++ w j) ls r = subst (λ (ws : List Written). Leads ws ls r) (sym (ap (form_written expression_written) is) ∙ written first j) l in
+          let l' : Leads (expression_written first ++ w j) ls r =
+          subst (λ (ws : List Written). Leads ws ls r) (sym (ap (form_written expression_written) is) ∙ written first j) l in
           let t = leads_through (expression_written first) (w j) ls r l' in
-          let a = one.complete first ls t.middle tt (first_true (expression_fits first lower left) (ok j) o') t.first (apart t.middle (begun j t.middle r t.second)) in
+          let a =
+          one.complete first ls t.middle tt (first_true (expression_fits first lower left) (ok j) o') t.first
+          (apart t.middle (begun j t.middle r t.second)) in
           let b = (behind first).complete j t.middle r tt (second_true (expression_fits first lower left) (ok j) o') t.second end in
           rw (a, begun j t.middle r t.second) (b ∙ ap (λ z. done (formed z) r) is)
       by_level f ls r (Tighter o') o l end = rw (by_expression lower left ends_lower p one f ls r o' l (closed r end), over r end) refl

@@ -5,7 +5,8 @@ use Rattle.std.specs.List.{list_all}
 use Rattle.std.proofs.lemmas.Bool.{not-true}
 use Rattle.ada_tree.specs.Written.{Written, Lexeme, delimiter, behind, separated, one_identifier, identifiers_written, name_written}
 use Rattle.ada_tree.specs.ShapeExpressions.{all_fit}
-use Rattle.ada_grammar.specs.Reading.{Parser, ◌>>◌, starts, the_delimiter, sees_delimiter, an_identifier, items_of, behind_delimiter_of, separated_of, identifiers_of, name_of, names_of}
+use Rattle.ada_grammar.specs.Reading.{Parser, ◌>>◌, starts, the_delimiter, sees_delimiter, an_identifier, items_of}
+use Rattle.ada_grammar.specs.Reading.{behind_delimiter_of, separated_of, identifiers_of, name_of, names_of}
 use Rattle.grammar_laws.specs.Leads.{Leads}
 use Rattle.grammar_laws.proofs.Reading.Exact.{Any, itself, Exact, field, closing, reshaped, first_true, second_true, listed}
 use Rattle.grammar_laws.proofs.Reading.Tokens.{always, shapeless, delimiter_then, identifier_exact, all_shapeless, sees_delimiter_first}
@@ -59,9 +60,11 @@ identifiers_exact =
 pub name_exact : Exact name_written shapeless (not_delimiter (codes ".")) name_of
 unfolding name_of
 name_exact =
-    closing itself Any (not_delimiter (codes ".")) (λ name. name.parts) (separated (delimiter (codes ".")) one_identifier) shapeless (separated_of (codes ".") an_identifier)
+    closing itself Any (not_delimiter (codes ".")) (λ name. name.parts) (separated (delimiter (codes ".")) one_identifier) shapeless
+    (separated_of (codes ".") an_identifier)
     (λ parts. record { parts = parts })
-    (separated_plain (codes ".") one_identifier always (not_delimiter (codes ".")) an_identifier identifier_exact (λ r e. refl) (λ r e. refl) (λ r e. not-true (sees_delimiter (codes ".") r) e))
+    (separated_plain (codes ".") one_identifier always (not_delimiter (codes ".")) an_identifier identifier_exact (λ r e. refl) (λ r e. refl)
+    (λ r e. not-true (sees_delimiter (codes ".") r) e))
     (λ parts. tt) (λ parts. refl) (λ parts name p e. rw e refl)
 
 -- name {separator name}

@@ -24,15 +24,19 @@ use Rattle.ada_tree.specs.declared.statements.Iteration.TheVariants as iteration
 use Rattle.ada_tree.specs.declared.statements.SequenceRole.TheVariants as role
 use Rattle.ada_tree.specs.declared.statements.Accept.{Accept}
 use Rattle.ada_tree.specs.declared.statements.Delay.{Delay}
-use Rattle.ada_tree.specs.Written.{Written, Lexeme, word, word_at, delimiter, flag, separated, identifier_written, one_identifier, behind, name_written, optional}
+use Rattle.ada_tree.specs.Written.{Written, Lexeme, word, word_at, delimiter, flag, separated}
+use Rattle.ada_tree.specs.Written.{identifier_written, one_identifier, behind, name_written, optional}
 use Rattle.ada_tree.specs.Spelling.{sequence_written}
-use Rattle.ada_tree.specs.SpellingStatements.{semicolon, call_written, index_written, assignment_written, delay_written, label_written, iteration_written, loop_written, block_opened, block_written, parameters_written, accept_body_written, with_abort_written, accept_written, statement_written}
+use Rattle.ada_tree.specs.SpellingStatements.{semicolon, call_written, index_written, assignment_written, delay_written, label_written}
+use Rattle.ada_tree.specs.SpellingStatements.{iteration_written, loop_written, block_opened, block_written, parameters_written}
+use Rattle.ada_tree.specs.SpellingStatements.{accept_body_written, with_abort_written, accept_written, statement_written}
 use Rattle.ada_tree.specs.SpellingExpressions.{expression_written, arguments_written}
 use Rattle.ada_tree.specs.Shape.{sequence_fits}
 use Rattle.ada_tree.specs.ShapeStatements.{delay_fits, accept_fits, parts_fit}
 use Rattle.ada_grammar.specs.Reading.{Parser, ◌>>=◌, pure, starts, starts_both, is_word, is_identifier, sees_word, sees_delimiter}
 use Rattle.ada_grammar.specs.ReadingSimple.{delay_of, simple_of, null_of, exit_of, return_of, raise_of, abort_of, requeue_of}
-use Rattle.ada_grammar.specs.ReadingStatements.{begins_loop, begins_block, begins_compound, sees_label, if_of, case_of, loop_of, block_of, labelled_of, accept_of, select_of, compound_of, named_statement_of, simple_statement_of, statement_inside_of}
+use Rattle.ada_grammar.specs.ReadingStatements.{begins_loop, begins_block, begins_compound, sees_label, if_of, case_of, loop_of, block_of, labelled_of}
+use Rattle.ada_grammar.specs.ReadingStatements.{accept_of, select_of, compound_of, named_statement_of, simple_statement_of, statement_inside_of}
 use Rattle.grammar_laws.specs.Leads.{Leads}
 use Rattle.grammar_laws.proofs.Reading.Leading.{leads_through}
 use Rattle.grammar_laws.proofs.Reading.Exact.{done, Rest, Any, itself, Exact, closing, first_is, first_optional, first_each}
@@ -43,7 +47,8 @@ use Rattle.grammar_laws.proofs.Reading.StatementsSteps.{begun_by}
 use Rattle.grammar_laws.proofs.Reading.ClausesCalls.{delay_exact, simple_sound, assignment_complete, call_complete}
 use Rattle.grammar_laws.proofs.Reading.ClausesStatements.{null_exact, exit_exact, return_exact, raise_exact, abort_exact, requeue_exact}
 use Rattle.grammar_laws.proofs.Reading.Statements.{if_exact, case_exact, accept_exact}
-use Rattle.grammar_laws.proofs.Reading.StatementsLoops.{label_name, statement_label, loop_behind_label, block_behind_label, unlabelled_loop_exact, unlabelled_block_exact, labelled_exact}
+use Rattle.grammar_laws.proofs.Reading.StatementsLoops.{label_name, statement_label, loop_behind_label, block_behind_label}
+use Rattle.grammar_laws.proofs.Reading.StatementsLoops.{unlabelled_loop_exact, unlabelled_block_exact, labelled_exact}
 use Rattle.grammar_laws.proofs.Reading.Selects.{ReadsDeeper, select_exact}
 
 -- ---- an identifier is no reserved word
@@ -52,25 +57,32 @@ no_text : (text other : List ℕ) → is_reserved text ≡ true → is_reserved 
 no_text text other reserved free true e = absurd (false≢true (sym free ∙ (ap is_reserved ((bytes_eq-Decides other text).0 e) ∙ reserved)))
 no_text text other reserved free false e = refl
 
-unreserved : (text : List ℕ) → is_reserved text ≡ true → (i : Identifier) (ws : List Written) (ls r : List Lexeme) → Leads (identifier_written i ∷ ws) ls r → sees_word text ls ≡ false
+unreserved : (text : List ℕ) → is_reserved text ≡ true → (i : Identifier) (ws : List Written) (ls r : List Lexeme) → Leads (identifier_written i ∷ ws) ls r
+    → sees_word text ls ≡ false
 unfolding starts
 unreserved text reserved i ws [] r l = absurd l
-unreserved text reserved i ws (l ∷ ls) r s = and_right (is_word l.kind) (bytes_eq l.text text) (no_text text l.text reserved s.0.identifier (bytes_eq l.text text) refl)
+unreserved text reserved i ws (l ∷ ls) r s =
+    and_right (is_word l.kind) (bytes_eq l.text text) (no_text text l.text reserved s.0.identifier (bytes_eq l.text text) refl)
 
 -- ---- whether a name and a colon stand there
 
-no_colon : (name : Name) (ws : List Written) → ((ls r : List Lexeme) → Leads ws ls r → sees_delimiter (codes ":") ls ≡ false) → (ls r : List Lexeme) → Leads (name_written name ++ ws) ls r → sees_label ls ≡ false
+no_colon : (name : Name) (ws : List Written) → ((ls r : List Lexeme) → Leads ws ls r → sees_delimiter (codes ":") ls ≡ false) → (ls r : List Lexeme)
+    → Leads (name_written name ++ ws) ls r → sees_label ls ≡ false
 unfolding starts_both starts
 no_colon name ws rest [] r l = absurd l
 no_colon name ws rest (l ∷ ls) r s =
     and_right (is_identifier l) (sees_delimiter (codes ":") ls)
-    (first_each (sees_delimiter (codes ":")) false (behind (delimiter (codes ".")) one_identifier) ws (λ i ls m l. first_is (sees_delimiter (codes ":")) false (delimiter (codes ".")) (λ l ls. refl) (one_identifier i) ls m l) rest name.parts.others ls r s.1)
+    (first_each (sees_delimiter (codes ":")) false (behind (delimiter (codes ".")) one_identifier) ws
+    (λ i ls m l.
+    first_is (sees_delimiter (codes ":")) false (delimiter (codes ".")) (λ l ls. refl) (one_identifier i) ls m l) rest name.parts.others ls r s.1)
 
 call_no_label : (c : Call) (ls r : List Lexeme) → Leads (call_written c) ls r → sees_label ls ≡ false
 unfolding starts
-call_no_label c ls r l = no_colon c.name (arguments_written expression_written c.arguments ++ semicolon) (λ ls r l. arguments_or_semicolon c.arguments ls r l) ls r l
+call_no_label c ls r l =
+    no_colon c.name (arguments_written expression_written c.arguments ++ semicolon) (λ ls r l. arguments_or_semicolon c.arguments ls r l) ls r l
   where
-    arguments_or_semicolon : (arguments : List (Argument Expression)) (ls r : List Lexeme) → Leads (arguments_written expression_written arguments ++ semicolon) ls r → sees_delimiter (codes ":") ls ≡ false
+    arguments_or_semicolon : (arguments : List (Argument Expression)) (ls r : List Lexeme)
+        → Leads (arguments_written expression_written arguments ++ semicolon) ls r → sees_delimiter (codes ":") ls ≡ false
     arguments_or_semicolon [] ls r l = first_is (sees_delimiter (codes ":")) false (delimiter (codes ";")) (λ l ls. refl) [] ls r l
     arguments_or_semicolon (a ∷ arguments) ls r l =
         let t = leads_through (arguments_written expression_written (a ∷ arguments)) semicolon ls r l in
@@ -82,7 +94,8 @@ assignment_no_label a ls r l =
     no_colon a.target (optional index_written a.index ++ delimiter (codes ":=") ∷ (expression_written a.value ++ semicolon))
     (λ ls r l. first_optional (sees_delimiter (codes ":")) false index_written (delimiter (codes ":=") ∷ (expression_written a.value ++ semicolon))
     (λ i ls m l. first_is (sees_delimiter (codes ":")) false (delimiter (codes "(")) (λ l ls. refl) (expression_written i ++ delimiter (codes ")") ∷ []) ls m l)
-    (λ ls r l. first_is (sees_delimiter (codes ":")) false (delimiter (codes ":=")) (λ l ls. refl) (expression_written a.value ++ semicolon) ls r l) a.index ls r l)
+    (λ ls r l.
+    first_is (sees_delimiter (codes ":")) false (delimiter (codes ":=")) (λ l ls. refl) (expression_written a.value ++ semicolon) ls r l) a.index ls r l)
     ls r l
 
 label_there : (label : Label) (ws : List Written) (ls r : List Lexeme) → Leads (label_written label ++ ws) ls r → sees_label ls ≡ true
@@ -92,21 +105,36 @@ label_there label ws (l ∷ []) r s = absurd s.1
 label_there label ws (l ∷ m ∷ ls) r s = rw (← s.0.kind, s.0.identifier, ← s.1.0.kind, ← s.1.0.text) refl
 
 -- one form of a whole
-sound_form : {X I J : Type 0} {make : I → X} {w : I → List Written} {ok : I → Bool} {P : J → Type 0} {wj : J → List Written} {okj : J → Bool} {ends : List Lexeme → Bool} {p : Parser X} (form : J → I)
+sound_form : {X I J : Type 0} {make : I → X} {w : I → List Written} {ok : I → Bool} {P : J → Type 0} {wj : J → List Written} {okj : J → Bool}
+    {ends : List Lexeme → Bool} {p : Parser X}
+    (form : J → I)
     → Rest (λ j. make (form j)) P wj okj ends p → ((j : J) → wj j ≡ w (form j)) → ((j : J) → okj j ≡ ok (form j)) → Sound make w ok p
 sound_form form law same okay = record {
   by = λ ls x r e.
       let f = law.sound ls x r e in
-      record { item = form f.item; is = f.is; fits = tt; leads = subst (λ (ws : List Written). Leads ws ls r) (same f.item) f.leads; shaped = sym (okay f.item) ∙ f.shaped };
+      record {
+        item = form f.item;
+        is = f.is;
+        fits = tt;
+        leads = subst (λ (ws : List Written). Leads ws ls r) (same f.item) f.leads;
+        shaped = sym (okay f.item) ∙ f.shaped;
+      };
 }
 
 module _ (left : ℕ) (sequence : SequenceRole → Parser Sequence) (deeper : SequenceRole → Parser Sequence)
-    (exact : (r : SequenceRole) → Exact (λ q. sequence_written q r) (λ q. sequence_fits q r left) (ends_sequence r) (sequence r)) (known : ReadsDeeper left deeper) where
-  accept_statement_exact : Rest (λ (a : Accept Sequence). statements.Accept a) Any (accept_written sequence_written) (accept_fits sequence_fits left) always (accept_of left sequence >>= λ accept. pure (statements.Accept accept))
-  accept_statement_exact = closing (λ a. statements.Accept a) Any always itself (accept_written sequence_written) (accept_fits sequence_fits left) (accept_of left sequence) itself (accept_exact left sequence exact) (λ a. tt) (λ a. refl) (λ a i p e. e)
+    (exact : (r : SequenceRole) → Exact (λ q. sequence_written q r) (λ q. sequence_fits q r left) (ends_sequence r) (sequence r))
+    (known : ReadsDeeper left deeper) where
+  accept_statement_exact : Rest (λ (a : Accept Sequence). statements.Accept a) Any (accept_written sequence_written) (accept_fits sequence_fits left) always
+      (accept_of left sequence >>= λ accept. pure (statements.Accept accept))
+  accept_statement_exact =
+      closing (λ a. statements.Accept a) Any always itself (accept_written sequence_written) (accept_fits sequence_fits left) (accept_of left sequence) itself
+      (accept_exact left sequence exact) (λ a. tt) (λ a. refl) (λ a i p e. e)
 
-  delay_statement_exact : Rest {X = Statement Sequence} (λ (d : Delay). statements.Delay d) Any delay_written (delay_fits left) always (delay_of left >>= λ delay. pure (statements.Delay delay))
-  delay_statement_exact = closing (λ d. statements.Delay d) Any always itself delay_written (delay_fits left) (delay_of left) itself (delay_exact left) (λ a. tt) (λ a. refl) (λ a i p e. e)
+  delay_statement_exact : Rest {X = Statement Sequence} (λ (d : Delay). statements.Delay d) Any delay_written (delay_fits left) always
+      (delay_of left >>= λ delay. pure (statements.Delay delay))
+  delay_statement_exact =
+      closing (λ d. statements.Delay d) Any always itself delay_written (delay_fits left) (delay_of left) itself (delay_exact left) (λ a. tt) (λ a. refl)
+      (λ a i p e. e)
 
   abbrev SoundStatement : Parser (Statement Sequence) → Type 0
   SoundStatement p = Sound itself (statement_written sequence_written) (λ s. parts_fit sequence_fits s left) p
@@ -123,7 +151,8 @@ module _ (left : ℕ) (sequence : SequenceRole → Parser Sequence) (deeper : Se
 
   named_sound : SoundStatement (named_statement_of left sequence deeper)
   unfolding named_statement_of
-  named_sound = either sees_label (sound_form itself (labelled_exact left sequence exact) (λ s. refl) (λ s. refl)) (simple_sound sequence_written sequence_fits left)
+  named_sound =
+      either sees_label (sound_form itself (labelled_exact left sequence exact) (λ s. refl) (λ s. refl)) (simple_sound sequence_written sequence_fits left)
 
   simple_statement_sound : SoundStatement (simple_statement_of left sequence deeper)
   unfolding simple_statement_of
@@ -143,7 +172,8 @@ module _ (left : ℕ) (sequence : SequenceRole → Parser Sequence) (deeper : Se
 
   -- ---- statements that begin with an identifier
 
-  named_there : (i : Identifier) (ws : List Written) (ls r : List Lexeme) → Leads (identifier_written i ∷ ws) ls r → statement_inside_of left sequence deeper ls ≡ named_statement_of left sequence deeper ls
+  named_there : (i : Identifier) (ws : List Written) (ls r : List Lexeme) → Leads (identifier_written i ∷ ws) ls r
+      → statement_inside_of left sequence deeper ls ≡ named_statement_of left sequence deeper ls
   unfolding statement_inside_of simple_statement_of is_reserved
   named_there i ws ls r l =
       rw (
@@ -166,82 +196,123 @@ module _ (left : ℕ) (sequence : SequenceRole → Parser Sequence) (deeper : Se
       )
       refl
 
-  labelled_complete : (label : Label) (s : Statement Sequence) → label_name (statement_label s) ≡ Some label.name → (ws : List Written) (ls r : List Lexeme) → parts_fit sequence_fits s left ≡ true
+  labelled_complete : (label : Label) (s : Statement Sequence) → label_name (statement_label s) ≡ Some label.name → (ws : List Written) (ls r : List Lexeme)
+      → parts_fit sequence_fits s left ≡ true
       → Leads (statement_written sequence_written s) ls r → Leads (label_written label ++ ws) ls r → statement_inside_of left sequence deeper ls ≡ done s r
   unfolding named_statement_of
   labelled_complete label s e ws ls r o l there =
       named_there label.name (delimiter (codes ":") ∷ ws) ls r there
-      ∙ chosen sees_label (labelled_of left sequence) (simple_of left) ls (done s r) (label_there label ws ls r there) ((labelled_exact left sequence exact).complete s ls r (label.name, e) o l refl)
+      ∙ chosen sees_label (labelled_of left sequence) (simple_of left) ls (done s r) (label_there label ws ls r there)
+      ((labelled_exact left sequence exact).complete s ls r (label.name, e) o l refl)
 
-  assigned : (a : Assignment) (ls r : List Lexeme) → parts_fit sequence_fits (statements.Assignment a) left ≡ true → Leads (assignment_written a) ls r → statement_inside_of left sequence deeper ls ≡ done (statements.Assignment a) r
+  assigned : (a : Assignment) (ls r : List Lexeme) → parts_fit sequence_fits (statements.Assignment a) left ≡ true → Leads (assignment_written a) ls r
+      → statement_inside_of left sequence deeper ls ≡ done (statements.Assignment a) r
   unfolding named_statement_of
   assigned a ls r o l =
-      named_there a.target.parts.first (flat_map (behind (delimiter (codes ".")) one_identifier) a.target.parts.others ++ (optional index_written a.index ++ delimiter (codes ":=") ∷ (expression_written a.value ++ semicolon))) ls r l
-      ∙ passed sees_label (labelled_of left sequence) (simple_of left) ls (done (statements.Assignment a) r) (assignment_no_label a ls r l) (assignment_complete left a ls r o l)
+      named_there a.target.parts.first
+      (flat_map (behind (delimiter (codes ".")) one_identifier) a.target.parts.others
+      ++ (optional index_written a.index ++ delimiter (codes ":=") ∷ (expression_written a.value ++ semicolon))) ls r l
+      ∙ passed sees_label (labelled_of left sequence) (simple_of left) ls (done (statements.Assignment a) r) (assignment_no_label a ls r l)
+      (assignment_complete left a ls r o l)
 
-  called : (c : Call) (ls r : List Lexeme) → parts_fit sequence_fits (statements.Call c) left ≡ true → Leads (call_written c) ls r → statement_inside_of left sequence deeper ls ≡ done (statements.Call c) r
+  called : (c : Call) (ls r : List Lexeme) → parts_fit sequence_fits (statements.Call c) left ≡ true → Leads (call_written c) ls r
+      → statement_inside_of left sequence deeper ls ≡ done (statements.Call c) r
   unfolding named_statement_of
   called c ls r o l =
-      named_there c.name.parts.first (flat_map (behind (delimiter (codes ".")) one_identifier) c.name.parts.others ++ (arguments_written expression_written c.arguments ++ semicolon)) ls r l
+      named_there c.name.parts.first
+      (flat_map (behind (delimiter (codes ".")) one_identifier) c.name.parts.others
+      ++ (arguments_written expression_written c.arguments ++ semicolon)) ls r l
       ∙ passed sees_label (labelled_of left sequence) (simple_of left) ls (done (statements.Call c) r) (call_no_label c ls r l) (call_complete left c ls r o l)
 
   -- ---- loops and blocks
 
-  loop_there : (i : Iteration) (p : Place) (ws : List Written) (ls r : List Lexeme) → Leads (iteration_written i ++ word_at p (codes "loop") ∷ ws) ls r → statement_inside_of left sequence deeper ls ≡ loop_of left sequence None ls
+  loop_there : (i : Iteration) (p : Place) (ws : List Written) (ls r : List Lexeme) → Leads (iteration_written i ++ word_at p (codes "loop") ∷ ws) ls r
+      → statement_inside_of left sequence deeper ls ≡ loop_of left sequence None ls
   unfolding statement_inside_of compound_of starts
-  loop_there iterations.Forever p ws ls r l = begun_by (word_at p (codes "loop")) (statement_inside_of left sequence deeper) (loop_of left sequence None) (λ l ls. refl) ws ls r l
+  loop_there iterations.Forever p ws ls r l =
+      begun_by (word_at p (codes "loop")) (statement_inside_of left sequence deeper) (loop_of left sequence None) (λ l ls. refl) ws ls r l
   loop_there (iterations.While place condition) p ws ls r l =
-      begun_by (word_at place (codes "while")) (statement_inside_of left sequence deeper) (loop_of left sequence None) (λ l ls. refl) (expression_written condition ++ word_at p (codes "loop") ∷ ws) ls r l
+      begun_by (word_at place (codes "while")) (statement_inside_of left sequence deeper) (loop_of left sequence None) (λ l ls. refl)
+      (expression_written condition ++ word_at p (codes "loop") ∷ ws) ls r l
   loop_there (iterations.For place parameter reverse low high) p ws ls r l =
       begun_by (word_at place (codes "for")) (statement_inside_of left sequence deeper) (loop_of left sequence None) (λ l ls. refl)
-      (identifier_written parameter ∷ word (codes "in") ∷ (flag reverse (word (codes "reverse") ∷ []) ++ (expression_written low ++ delimiter (codes "..") ∷ expression_written high) ++ word_at p (codes "loop") ∷ ws)) ls r l
+      (identifier_written parameter ∷ word (codes "in")
+      ∷ (flag reverse (word (codes "reverse") ∷ []) ++ (expression_written low ++ delimiter (codes "..") ∷ expression_written high)
+      ++ word_at p (codes "loop") ∷ ws)) ls r l
 
   looped : (s : Loop Sequence) (label : Option Label) → label ≡ s.label → (ls r : List Lexeme) → parts_fit sequence_fits (statements.Loop s) left ≡ true
-      → Leads (loop_written sequence_written s) ls r → Leads (optional label_written label ++ loop_behind_label s) ls r → statement_inside_of left sequence deeper ls ≡ done (statements.Loop s) r
-  looped s None e ls r o l there = loop_there s.iteration s.place _ ls r there ∙ (unlabelled_loop_exact left sequence exact).complete s ls r (ap label_name (sym e)) o l refl
+      → Leads (loop_written sequence_written s) ls r → Leads (optional label_written label ++ loop_behind_label s) ls r
+      → statement_inside_of left sequence deeper ls ≡ done (statements.Loop s) r
+  looped s None e ls r o l there =
+      loop_there s.iteration s.place _ ls r there ∙ (unlabelled_loop_exact left sequence exact).complete s ls r (ap label_name (sym e)) o l refl
   looped s (Some label) e ls r o l there = labelled_complete label (statements.Loop s) (ap label_name (sym e)) (loop_behind_label s) ls r o l there
 
-  block_there : (declare : Bool) (p : Place) (q : Sequence) (ws : List Written) (ls r : List Lexeme) → Leads (block_opened sequence_written declare p q ++ ws) ls r → statement_inside_of left sequence deeper ls ≡ block_of left sequence None ls
+  block_there : (declare : Bool) (p : Place) (q : Sequence) (ws : List Written) (ls r : List Lexeme)
+      → Leads (block_opened sequence_written declare p q ++ ws) ls r → statement_inside_of left sequence deeper ls ≡ block_of left sequence None ls
   unfolding statement_inside_of compound_of starts
-  block_there true p q ws ls r l = begun_by (word_at p (codes "declare")) (statement_inside_of left sequence deeper) (block_of left sequence None) (λ l ls. refl) (sequence_written q role.Body ++ ws) ls r l
-  block_there false p q ws ls r l = begun_by (word_at p (codes "begin")) (statement_inside_of left sequence deeper) (block_of left sequence None) (λ l ls. refl) (sequence_written q role.Handled ++ ws) ls r l
+  block_there true p q ws ls r l =
+      begun_by (word_at p (codes "declare")) (statement_inside_of left sequence deeper) (block_of left sequence None) (λ l ls. refl)
+      (sequence_written q role.Body ++ ws) ls r l
+  block_there false p q ws ls r l =
+      begun_by (word_at p (codes "begin")) (statement_inside_of left sequence deeper) (block_of left sequence None) (λ l ls. refl)
+      (sequence_written q role.Handled ++ ws) ls r l
 
   blocked : (b : Block Sequence) (label : Option Label) → label ≡ b.label → (ls r : List Lexeme) → parts_fit sequence_fits (statements.Block b) left ≡ true
-      → Leads (block_written sequence_written b) ls r → Leads (optional label_written label ++ block_behind_label b) ls r → statement_inside_of left sequence deeper ls ≡ done (statements.Block b) r
-  blocked b None e ls r o l there = block_there b.declare b.place b.sequence _ ls r there ∙ (unlabelled_block_exact left sequence exact).complete b ls r (ap label_name (sym e)) o l refl
+      → Leads (block_written sequence_written b) ls r → Leads (optional label_written label ++ block_behind_label b) ls r
+      → statement_inside_of left sequence deeper ls ≡ done (statements.Block b) r
+  blocked b None e ls r o l there =
+      block_there b.declare b.place b.sequence _ ls r there ∙ (unlabelled_block_exact left sequence exact).complete b ls r (ap label_name (sym e)) o l refl
   blocked b (Some label) e ls r o l there = labelled_complete label (statements.Block b) (ap label_name (sym e)) (block_behind_label b) ls r o l there
 
   -- ---- all statements: their first token says which
 
-  statement_complete : (s : Statement Sequence) (ls r : List Lexeme) → parts_fit sequence_fits s left ≡ true → Leads (statement_written sequence_written s) ls r → statement_inside_of left sequence deeper ls ≡ done s r
+  statement_complete : (s : Statement Sequence) (ls r : List Lexeme) → parts_fit sequence_fits s left ≡ true → Leads (statement_written sequence_written s) ls r
+      → statement_inside_of left sequence deeper ls ≡ done s r
   unfolding statement_inside_of compound_of simple_statement_of starts
   statement_complete (statements.Null place) ls r o l =
-      begun_by (word_at place (codes "null")) (statement_inside_of left sequence deeper) null_of (λ l ls. refl) semicolon ls r l ∙ null_exact.complete place ls r tt refl l refl
+      begun_by (word_at place (codes "null")) (statement_inside_of left sequence deeper) null_of (λ l ls. refl) semicolon ls r l
+      ∙ null_exact.complete place ls r tt refl l refl
   statement_complete (statements.Assignment a) ls r o l = assigned a ls r o l
   statement_complete (statements.Call c) ls r o l = called c ls r o l
   statement_complete (statements.Delay d) ls r o l =
-      begun_by (word_at d.place (codes "delay")) (statement_inside_of left sequence deeper) (delay_of left >>= λ delay. pure (statements.Delay delay)) (λ l ls. refl) _ ls r l ∙ delay_statement_exact.complete d ls r tt o l refl
+      begun_by (word_at d.place (codes "delay")) (statement_inside_of left sequence deeper) (delay_of left >>= λ delay. pure (statements.Delay delay))
+      (λ l ls. refl) _ ls r l
+      ∙ delay_statement_exact.complete d ls r tt o l refl
   statement_complete (statements.If i) ls r o l =
-      begun_by (word_at i.place (codes "if")) (statement_inside_of left sequence deeper) (if_of left sequence) (λ l ls. refl) _ ls r l ∙ (if_exact left sequence exact).complete i ls r tt o l refl
+      begun_by (word_at i.place (codes "if")) (statement_inside_of left sequence deeper) (if_of left sequence) (λ l ls. refl) _ ls r l
+      ∙ (if_exact left sequence exact).complete i ls r tt o l refl
   statement_complete (statements.Case c) ls r o l =
-      begun_by (word_at c.place (codes "case")) (statement_inside_of left sequence deeper) (case_of left sequence) (λ l ls. refl) _ ls r l ∙ (case_exact left sequence exact).complete c ls r tt o l refl
+      begun_by (word_at c.place (codes "case")) (statement_inside_of left sequence deeper) (case_of left sequence) (λ l ls. refl) _ ls r l
+      ∙ (case_exact left sequence exact).complete c ls r tt o l refl
   statement_complete (statements.Loop s) ls r o l = looped s s.label refl ls r o l l
   statement_complete (statements.Exit e) ls r o l =
-      begun_by (word_at e.place (codes "exit")) (statement_inside_of left sequence deeper) (exit_of left) (λ l ls. refl) _ ls r l ∙ (exit_exact left).complete e ls r tt o l refl
+      begun_by (word_at e.place (codes "exit")) (statement_inside_of left sequence deeper) (exit_of left) (λ l ls. refl) _ ls r l
+      ∙ (exit_exact left).complete e ls r tt o l refl
   statement_complete (statements.Block b) ls r o l = blocked b b.label refl ls r o l l
   statement_complete (statements.Return place value) ls r o l =
-      begun_by (word_at place (codes "return")) (statement_inside_of left sequence deeper) (return_of left) (λ l ls. refl) (optional expression_written value ++ semicolon) ls r l ∙ (return_exact left).complete (place, value) ls r tt o l refl
+      begun_by (word_at place (codes "return")) (statement_inside_of left sequence deeper) (return_of left) (λ l ls. refl)
+      (optional expression_written value ++ semicolon) ls r l
+      ∙ (return_exact left).complete (place, value) ls r tt o l refl
   statement_complete (statements.Raise place exception) ls r o l =
-      begun_by (word_at place (codes "raise")) (statement_inside_of left sequence deeper) raise_of (λ l ls. refl) (optional name_written exception ++ semicolon) ls r l ∙ raise_exact.complete (place, exception) ls r tt refl l refl
+      begun_by (word_at place (codes "raise")) (statement_inside_of left sequence deeper) raise_of (λ l ls. refl)
+      (optional name_written exception ++ semicolon) ls r l
+      ∙ raise_exact.complete (place, exception) ls r tt refl l refl
   statement_complete (statements.Abort place tasks) ls r o l =
-      begun_by (word_at place (codes "abort")) (statement_inside_of left sequence deeper) abort_of (λ l ls. refl) (separated (delimiter (codes ",")) name_written tasks ++ semicolon) ls r l ∙ abort_exact.complete (place, tasks) ls r tt refl l refl
+      begun_by (word_at place (codes "abort")) (statement_inside_of left sequence deeper) abort_of (λ l ls. refl)
+      (separated (delimiter (codes ",")) name_written tasks ++ semicolon) ls r l
+      ∙ abort_exact.complete (place, tasks) ls r tt refl l refl
   statement_complete (statements.Accept a) ls r o l =
-      begun_by (word_at a.place (codes "accept")) (statement_inside_of left sequence deeper) (accept_of left sequence >>= λ accept. pure (statements.Accept accept)) (λ l ls. refl)
-      (identifier_written a.entry ∷ (parameters_written a.parameters ++ (optional (accept_body_written sequence_written a.entry) a.body ++ semicolon))) ls r l ∙ accept_statement_exact.complete a ls r tt o l refl
+      begun_by (word_at a.place (codes "accept")) (statement_inside_of left sequence deeper)
+      (accept_of left sequence >>= λ accept. pure (statements.Accept accept)) (λ l ls. refl)
+      (identifier_written a.entry ∷ (parameters_written a.parameters ++ (optional (accept_body_written sequence_written a.entry) a.body ++ semicolon))) ls r l
+      ∙ accept_statement_exact.complete a ls r tt o l refl
   statement_complete (statements.Requeue place entry with_abort) ls r o l =
-      begun_by (word_at place (codes "requeue")) (statement_inside_of left sequence deeper) requeue_of (λ l ls. refl) (name_written entry ++ (with_abort_written with_abort ++ semicolon)) ls r l ∙ requeue_exact.complete (place, (entry, with_abort)) ls r tt refl l refl
+      begun_by (word_at place (codes "requeue")) (statement_inside_of left sequence deeper) requeue_of (λ l ls. refl)
+      (name_written entry ++ (with_abort_written with_abort ++ semicolon)) ls r l
+      ∙ requeue_exact.complete (place, (entry, with_abort)) ls r tt refl l refl
   statement_complete (statements.Select s) ls r o l =
-      begun_by (word_at s.place (codes "select")) (statement_inside_of left sequence deeper) (select_of left sequence deeper) (λ l ls. refl) _ ls r l ∙ (select_exact left sequence deeper exact known).complete s ls r tt o l refl
+      begun_by (word_at s.place (codes "select")) (statement_inside_of left sequence deeper) (select_of left sequence deeper) (λ l ls. refl) _ ls r l
+      ∙ (select_exact left sequence deeper exact known).complete s ls r tt o l refl
 
   pub statement_exact : Exact (statement_written sequence_written) (λ s. parts_fit sequence_fits s left) always (statement_inside_of left sequence deeper)
   statement_exact = record { sound = statement_sound.by; complete = λ s ls r p o l end. statement_complete s ls r o l }

@@ -11,10 +11,12 @@ use Rattle.ada_tree.specs.declared.statements.Sequence.{Sequence}
 use Rattle.ada_tree.specs.declared.statements.Sequence.TheViews.{out-Sequence}
 use Rattle.ada_tree.specs.declared.statements.Iteration.{Iteration}
 use Rattle.ada_tree.specs.declared.statements.Iteration.TheVariants as iterations
-use Rattle.ada_tree.specs.Written.{Written, Lexeme, word, word_at, delimiter, flag, identifier_written, one_identifier, behind, separated, name_written, optional}
+use Rattle.ada_tree.specs.Written.{Written, Lexeme, word, word_at, delimiter, flag, identifier_written}
+use Rattle.ada_tree.specs.Written.{one_identifier, behind, separated, name_written, optional}
 use Rattle.ada_tree.specs.Spelling.{sequence_written}
 use Rattle.ada_tree.specs.SpellingExpressions.{expression_written}
-use Rattle.ada_tree.specs.SpellingStatements.{semicolon, with_abort_written, parameters_written, accept_body_written, iteration_written, label_written, block_opened, statements_written, statement_written}
+use Rattle.ada_tree.specs.SpellingStatements.{semicolon, with_abort_written, parameters_written, accept_body_written}
+use Rattle.ada_tree.specs.SpellingStatements.{iteration_written, label_written, block_opened, statements_written, statement_written}
 use Rattle.ada_tree.proofs.SequenceFolds.{sequence_is_written}
 use Rattle.ada_grammar.specs.Reading.{starts, sees_word, sees_identifier}
 use Rattle.ada_grammar.specs.ReadingStatements.{begins_compound, begins_simple, begins_statement}
@@ -43,19 +45,26 @@ name_sees name ws ls r l = sees_identifier_first name.parts.first (flat_map (beh
 name_begins : (name : Name) (ws : List Written) (ls r : List Lexeme) → Leads (name_written name ++ ws) ls r → begins_statement ls ≡ true
 name_begins name ws ls r l = identifier_begins ls (name_sees name ws ls r l)
 
-labelled_begins : (o : Option _) (ws : List Written) → ((ls r : List Lexeme) → Leads ws ls r → begins_statement ls ≡ true) → (ls r : List Lexeme) → Leads (optional label_written o ++ ws) ls r → begins_statement ls ≡ true
+labelled_begins : (o : Option _) (ws : List Written) → ((ls r : List Lexeme) → Leads ws ls r → begins_statement ls ≡ true) → (ls r : List Lexeme)
+    → Leads (optional label_written o ++ ws) ls r → begins_statement ls ≡ true
 labelled_begins o ws rest ls r l =
-    first_optional begins_statement true label_written ws (λ label ls m l. identifier_begins ls (sees_identifier_first label.name (delimiter (codes ":") ∷ []) ls m l)) rest o ls r l
+    first_optional begins_statement true label_written ws
+    (λ label ls m l. identifier_begins ls (sees_identifier_first label.name (delimiter (codes ":") ∷ []) ls m l)) rest o ls r l
 
-loop_begins : (i : Iteration) (p : Place) (ws : List Written) (ls r : List Lexeme) → Leads (iteration_written i ++ word_at p (codes "loop") ∷ ws) ls r → begins_statement ls ≡ true
+loop_begins : (i : Iteration) (p : Place) (ws : List Written) (ls r : List Lexeme) → Leads (iteration_written i ++ word_at p (codes "loop") ∷ ws) ls r
+    → begins_statement ls ≡ true
 unfolding starts begins_statement
 loop_begins iterations.Forever p ws ls r l = first_is begins_statement true (word_at p (codes "loop")) (λ l ls. refl) ws ls r l
-loop_begins (iterations.While place condition) p ws ls r l = first_is begins_statement true (word_at place (codes "while")) (λ l ls. refl) (expression_written condition ++ word_at p (codes "loop") ∷ ws) ls r l
+loop_begins (iterations.While place condition) p ws ls r l =
+    first_is begins_statement true (word_at place (codes "while")) (λ l ls. refl) (expression_written condition ++ word_at p (codes "loop") ∷ ws) ls r l
 loop_begins (iterations.For place parameter reverse low high) p ws ls r l =
     first_is begins_statement true (word_at place (codes "for")) (λ l ls. refl)
-    (identifier_written parameter ∷ word (codes "in") ∷ (flag reverse (word (codes "reverse") ∷ []) ++ (expression_written low ++ delimiter (codes "..") ∷ expression_written high) ++ word_at p (codes "loop") ∷ ws)) ls r l
+    (identifier_written parameter ∷ word (codes "in")
+    ∷ (flag reverse (word (codes "reverse") ∷ []) ++ (expression_written low ++ delimiter (codes "..") ∷ expression_written high)
+    ++ word_at p (codes "loop") ∷ ws)) ls r l
 
-block_begins : (declare : Bool) (p : Place) (q : Sequence) (ws : List Written) (ls r : List Lexeme) → Leads (block_opened sequence_written declare p q ++ ws) ls r → begins_statement ls ≡ true
+block_begins : (declare : Bool) (p : Place) (q : Sequence) (ws : List Written) (ls r : List Lexeme)
+    → Leads (block_opened sequence_written declare p q ++ ws) ls r → begins_statement ls ≡ true
 unfolding starts begins_statement
 block_begins true p q ws ls r l = first_is begins_statement true (word_at p (codes "declare")) (λ l ls. refl) (sequence_written q role.Body ++ ws) ls r l
 block_begins false p q ws ls r l = first_is begins_statement true (word_at p (codes "begin")) (λ l ls. refl) (sequence_written q role.Handled ++ ws) ls r l
@@ -73,10 +82,12 @@ statement_begins (statements.Exit e) ls r l = first_is begins_statement true (wo
 statement_begins (statements.Block b) ls r l = labelled_begins b.label _ (λ ls r l. block_begins b.declare b.place b.sequence _ ls r l) ls r l
 statement_begins (statements.Return place value) ls r l = first_is begins_statement true (word_at place (codes "return")) (λ l ls. refl) _ ls r l
 statement_begins (statements.Raise place exception) ls r l = first_is begins_statement true (word_at place (codes "raise")) (λ l ls. refl) _ ls r l
-statement_begins (statements.Abort place tasks) ls r l = first_is begins_statement true (word_at place (codes "abort")) (λ l ls. refl) (separated (delimiter (codes ",")) name_written tasks ++ semicolon) ls r l
+statement_begins (statements.Abort place tasks) ls r l =
+    first_is begins_statement true (word_at place (codes "abort")) (λ l ls. refl) (separated (delimiter (codes ",")) name_written tasks ++ semicolon) ls r l
 statement_begins (statements.Accept a) ls r l = first_is begins_statement true (word_at a.place (codes "accept")) (λ l ls. refl)
     (identifier_written a.entry ∷ (parameters_written a.parameters ++ (optional (accept_body_written sequence_written a.entry) a.body ++ semicolon))) ls r l
-statement_begins (statements.Requeue place entry with_abort) ls r l = first_is begins_statement true (word_at place (codes "requeue")) (λ l ls. refl) (name_written entry ++ (with_abort_written with_abort ++ semicolon)) ls r l
+statement_begins (statements.Requeue place entry with_abort) ls r l =
+    first_is begins_statement true (word_at place (codes "requeue")) (λ l ls. refl) (name_written entry ++ (with_abort_written with_abort ++ semicolon)) ls r l
 statement_begins (statements.Select s) ls r l = first_is begins_statement true (word_at s.place (codes "select")) (λ l ls. refl) _ ls r l
 
 -- and so does a sequence of statements alone
@@ -84,5 +95,7 @@ pub statements_begin : (q : Sequence) (ls r : List Lexeme) → Leads (statements
 statements_begin q ls r l =
     let whole = subst (λ (ws : List Written). Leads ws ls r) (sequence_is_written q role.Statements) l in
     let first = (out-Sequence q).parts.statements.first in
-    let t = leads_through (statement_written sequence_written first) (flat_map (statement_written sequence_written) (out-Sequence q).parts.statements.others) ls r whole in
+    let t =
+    leads_through (statement_written sequence_written first)
+    (flat_map (statement_written sequence_written) (out-Sequence q).parts.statements.others) ls r whole in
     statement_begins first ls t.middle t.first

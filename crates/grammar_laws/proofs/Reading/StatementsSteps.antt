@@ -22,7 +22,8 @@ pub record Came {I J : Type 0} (to : J → I) (Q : J → Type 0) (i : I) : Type 
   pub is : to from ≡ i
 
 -- the last part that is asked for its shape
-pub last_part : {X I A : Type 0} {make : I → X} {P : I → Type 0} {w : I → List Written} {ends : List Lexeme → Bool} (get : I → A) {wa : A → List Written} {oka : A → Bool} {endsa : List Lexeme → Bool} {pa : Parser A} {k : A → Parser X}
+pub last_part : {X I A : Type 0} {make : I → X} {P : I → Type 0} {w : I → List Written} {ends : List Lexeme → Bool}
+    (get : I → A) {wa : A → List Written} {oka : A → Bool} {endsa : List Lexeme → Bool} {pa : Parser A} {k : A → Parser X}
     → Exact wa oka endsa pa
     → ((i : I) (ls r : List Lexeme) → P i → Leads (w i) ls r → ends r ≡ true → endsa ls ≡ true)
     → ((a : A) → Rest make (λ i. P i × (a ≡ get i)) w (λ i. true) ends (k a))
@@ -93,7 +94,15 @@ module _ {X I : Type 0} {make : I → X} {P : I → Type 0} {w : I → List Writ
   -- the same production, its writing put otherwise where something is known of the item
   pub rewritten : {w' : I → List Written} {p : Parser X} → Rest make P w ok ends p → ((i : I) → P i → w i ≡ w' i) → Rest make P w' ok ends p
   rewritten {w'} {p} law same = record {
-    sound = λ ls x r e. let f = law.sound ls x r e in record { item = f.item; is = f.is; fits = f.fits; leads = subst (λ (ws : List Written). Leads ws ls r) (same f.item f.fits) f.leads; shaped = f.shaped };
+    sound =
+        λ ls x r e. let f = law.sound ls x r e in
+        record {
+          item = f.item;
+          is = f.is;
+          fits = f.fits;
+          leads = subst (λ (ws : List Written). Leads ws ls r) (same f.item f.fits) f.leads;
+          shaped = f.shaped;
+        };
     complete = λ i ls r q o l end. law.complete i ls r q o (subst (λ (ws : List Written). Leads ws ls r) (sym (same i q)) l) end;
   }
 
@@ -132,7 +141,8 @@ pub record Side (test : List Lexeme → Bool) (A B : Type 0) (ls : List Lexeme) 
   pub is : test ls ≡ value
   pub known : Which value A B
 
-module _ {X I : Type 0} {make : I → X} {P : I → Type 0} {w : I → List Written} {ok : I → Bool} {ends : List Lexeme → Bool} {P1 P2 : I → Type 0} {p q : Parser X} where
+module _ {X I : Type 0} {make : I → X} {P : I → Type 0} {w : I → List Written} {ok : I → Bool} {ends : List Lexeme → Bool} {P1 P2 : I → Type 0}
+    {p q : Parser X} where
   pub decided : (test : List Lexeme → Bool) → Rest make P1 w ok ends p → Rest make P2 w ok ends q → ((i : I) → P1 i → P i) → ((i : I) → P2 i → P i)
       → ((i : I) (ls r : List Lexeme) → P i → Leads (w i) ls r → ends r ≡ true → Side test (P1 i) (P2 i) ls) → Rest make P w ok ends (choose test p q)
   decided test first second fits1 fits2 side = record {
@@ -141,10 +151,13 @@ module _ {X I : Type 0} {make : I → X} {P : I → Type 0} {w : I → List Writ
   }
     where
       by_test : (ls : List Lexeme) (x : X) (r : List Lexeme) (v : Bool) → cond {A = Read X} v (p ls) (q ls) ≡ done x r → Found make P w ok x ls r
-      by_test ls x r true e = let f = first.sound ls x r e in record { item = f.item; is = f.is; fits = fits1 f.item f.fits; leads = f.leads; shaped = f.shaped }
-      by_test ls x r false e = let f = second.sound ls x r e in record { item = f.item; is = f.is; fits = fits2 f.item f.fits; leads = f.leads; shaped = f.shaped }
+      by_test ls x r true e =
+          let f = first.sound ls x r e in record { item = f.item; is = f.is; fits = fits1 f.item f.fits; leads = f.leads; shaped = f.shaped }
+      by_test ls x r false e =
+          let f = second.sound ls x r e in record { item = f.item; is = f.is; fits = fits2 f.item f.fits; leads = f.leads; shaped = f.shaped }
 
-      to : (i : I) (ls r : List Lexeme) → ok i ≡ true → Leads (w i) ls r → ends r ≡ true → (v : Bool) → test ls ≡ v → Which v (P1 i) (P2 i) → choose test p q ls ≡ done (make i) r
+      to : (i : I) (ls r : List Lexeme) → ok i ≡ true → Leads (w i) ls r → ends r ≡ true → (v : Bool) → test ls ≡ v → Which v (P1 i) (P2 i)
+          → choose test p q ls ≡ done (make i) r
       to i ls r o l end true e known = rw e (first.complete i ls r known o l end)
       to i ls r o l end false e known = rw e (second.complete i ls r known o l end)
 

@@ -17,15 +17,18 @@ use Rattle.ada_tree.specs.declared.expressions.Expression.{Expression}
 use Rattle.ada_tree.specs.declared.expressions.ExpressionForm.{ExpressionForm}
 use Rattle.ada_tree.specs.declared.expressions.ExpressionForm.TheVariants as form
 use Rattle.ada_tree.specs.declared.expressions.Multiplied.{Multiplied}
-use Rattle.ada_tree.specs.Written.{Written, Lexeme, word_at, delimiter, delimiter_at, number_at, text_at, identifier_written, one_identifier, all_written, behind}
+use Rattle.ada_tree.specs.Written.{Written, Lexeme, word_at, delimiter, delimiter_at, number_at}
+use Rattle.ada_tree.specs.Written.{text_at, identifier_written, one_identifier, all_written, behind}
 use Rattle.ada_tree.specs.SpellingExpressions.{multiplying_written, highest_text, multiplied_written, form_written, expression_written}
 use Rattle.ada_tree.specs.ShapeExpressions.{all_fit, rank, precedence_of, parts_fit, multiplied_fits, form_fits, expression_fits}
 use Rattle.ada_grammar.specs.Reading.{Parser, starts, sees_word, sees_delimiter, the_word, the_delimiter, items_of}
-use Rattle.ada_grammar.specs.ReadingExpressions.{formed, multiplies, multiplying_delimiter_of, multiplying_word_of, multiplication_of, primary_of, highest_of, factor_of, multiplied_of, product_of, term_of}
+use Rattle.ada_grammar.specs.ReadingExpressions.{formed, multiplies, multiplying_delimiter_of, multiplying_word_of, multiplication_of}
+use Rattle.ada_grammar.specs.ReadingExpressions.{primary_of, highest_of, factor_of, multiplied_of, product_of, term_of}
 use Rattle.grammar_laws.specs.Leads.{Leads}
 use Rattle.grammar_laws.proofs.Reading.Leading.{leads_through, as_written}
 use Rattle.grammar_laws.proofs.Reading.Exact.{done, Rest, Any, itself, Exact, first_true, second_true, both, field, plain, closing, first_is, listed}
-use Rattle.grammar_laws.proofs.Reading.Tokens.{always, shapeless, word_exact, delimiter_exact, sees_delimiter_at_first, sees_word_at_first, identifier_no_word, seen_delimiter, seen_word}
+use Rattle.grammar_laws.proofs.Reading.Tokens.{always, shapeless, word_exact, delimiter_exact, sees_delimiter_at_first}
+use Rattle.grammar_laws.proofs.Reading.Tokens.{sees_word_at_first, identifier_no_word, seen_delimiter, seen_word}
 use Rattle.grammar_laws.proofs.Reading.ReservedWords.{reserved_abs, reserved_not}
 use Rattle.grammar_laws.proofs.Reading.Choices.{Sound, either, one_form}
 use Rattle.grammar_laws.proofs.Reading.Ends.{ends_designated, ends_term}
@@ -39,13 +42,18 @@ use Rattle.grammar_laws.proofs.Reading.Levels.Level.{This, Tighter}
 le_trans : (a b c : ℕ) → nat_le a b ≡ true → nat_le b c ≡ true → nat_le a c ≡ true
 le_trans a b c p q = grind (arith, nat_tests)
 
-pub looser : (upper lower : Precedence) (left : ℕ) (f : ExpressionForm Expression) → nat_le (rank upper) (rank lower) ≡ true → form_fits expression_fits f lower left ≡ true → form_fits expression_fits f upper left ≡ true
+pub looser : (upper lower : Precedence) (left : ℕ) (f : ExpressionForm Expression) → nat_le (rank upper) (rank lower) ≡ true
+    → form_fits expression_fits f lower left ≡ true → form_fits expression_fits f upper left ≡ true
 looser upper lower left f less o =
-    both (le_trans (rank upper) (rank lower) (rank (precedence_of f)) less (first_true (nat_le (rank lower) (rank (precedence_of f))) (parts_fit expression_fits f left) o))
+    both (le_trans (rank upper) (rank lower) (rank (precedence_of f)) less
+    (first_true (nat_le (rank lower) (rank (precedence_of f))) (parts_fit expression_fits f left) o))
     (second_true (nat_le (rank lower) (rank (precedence_of f))) (parts_fit expression_fits f left) o)
 
-pub loosened : {X I : Type 0} {make : I → X} {w : I → List Written} {ok ok' : I → Bool} {p : Parser X} → Sound make w ok p → ((i : I) → ok i ≡ true → ok' i ≡ true) → Sound make w ok' p
-loosened sound less = record { by = λ ls x r e. let f = sound.by ls x r e in record { item = f.item; is = f.is; fits = tt; leads = f.leads; shaped = less f.item f.shaped } }
+pub loosened : {X I : Type 0} {make : I → X} {w : I → List Written} {ok ok' : I → Bool} {p : Parser X} → Sound make w ok p
+    → ((i : I) → ok i ≡ true → ok' i ≡ true) → Sound make w ok' p
+loosened sound less = record {
+  by = λ ls x r e. let f = sound.by ls x r e in record { item = f.item; is = f.is; fits = tt; leads = f.leads; shaped = less f.item f.shaped };
+}
 
 -- one of two tests
 pub either_true : (F : Type 0) (p q : Bool) → (p || q) ≡ true → (p ≡ true → F) → (q ≡ true → F) → F
@@ -61,7 +69,8 @@ pub record Firsts (test : List Lexeme → Bool) (v : Bool) : Type 0 where
   pub bracket : (p : Place) (k : Lexeme) (ks : List Lexeme) → test (as_written (delimiter_at p (codes "(")) k ∷ ks) ≡ v
   pub name : (i : Identifier) (ws : List Written) (ls r : List Lexeme) → Leads (identifier_written i ∷ ws) ls r → test ls ≡ v
 
-pub primary_first : (test : List Lexeme → Bool) (v : Bool) → Firsts test v → (left : ℕ) (f : ExpressionForm Expression) (ls r : List Lexeme) → form_fits expression_fits f precedence.Primary left ≡ true
+pub primary_first : (test : List Lexeme → Bool) (v : Bool) → Firsts test v → (left : ℕ) (f : ExpressionForm Expression) (ls r : List Lexeme)
+    → form_fits expression_fits f precedence.Primary left ≡ true
     → Leads (form_written expression_written f) ls r → test ls ≡ v
 primary_first test v on left (form.Logical operator first others) ls r o l = absurd (false≢true o)
 primary_first test v on left (form.Relational a place operator b) ls r o l = absurd (false≢true o)
@@ -72,7 +81,8 @@ primary_first test v on left (form.Highest place operator operand) ls r o l = ab
 primary_first test v on left (form.Number place literal) ls r o l = first_is test v (number_at place literal) (on.number place literal) [] ls r l
 primary_first test v on left (form.Text place text) ls r o l = first_is test v (text_at place text) (on.text place text) [] ls r l
 primary_first test v on left (form.Null place) ls r o l = first_is test v (word_at place (codes "null")) (on.null place) [] ls r l
-primary_first test v on left (form.Bracketed place e) ls r o l = first_is test v (delimiter_at place (codes "(")) (on.bracket place) (expression_written e ++ delimiter (codes ")") ∷ []) ls r l
+primary_first test v on left (form.Bracketed place e) ls r o l =
+    first_is test v (delimiter_at place (codes "(")) (on.bracket place) (expression_written e ++ delimiter (codes ")") ∷ []) ls r l
 primary_first test v on left (form.Named name attribute arguments) ls r o l =
     named (flat_map (behind (delimiter (codes ".")) one_identifier) name.parts.others) _ ls r l
   where
@@ -81,16 +91,31 @@ primary_first test v on left (form.Named name attribute arguments) ls r o l =
 
 abs_first : Firsts (sees_word (codes "abs")) false
 unfolding starts
-abs_first = record { number = λ p t k ks. refl; text = λ p t k ks. refl; null = λ p k ks. refl; bracket = λ p k ks. refl; name = identifier_no_word (codes "abs") reserved_abs }
+abs_first = record {
+  number = λ p t k ks. refl;
+  text = λ p t k ks. refl;
+  null = λ p k ks. refl;
+  bracket = λ p k ks. refl;
+  name = identifier_no_word (codes "abs") reserved_abs;
+}
 
 not_first : Firsts (sees_word (codes "not")) false
 unfolding starts
-not_first = record { number = λ p t k ks. refl; text = λ p t k ks. refl; null = λ p k ks. refl; bracket = λ p k ks. refl; name = identifier_no_word (codes "not") reserved_not }
+not_first = record {
+  number = λ p t k ks. refl;
+  text = λ p t k ks. refl;
+  null = λ p k ks. refl;
+  bracket = λ p k ks. refl;
+  name = identifier_no_word (codes "not") reserved_not;
+}
 
 -- a factor may begin with an operator
-pub factor_first : (test : List Lexeme → Bool) (v : Bool) → Firsts test v → ((p : Place) (operator : HighestOperator) (k : Lexeme) (ks : List Lexeme) → test (as_written (word_at p (highest_text operator)) k ∷ ks) ≡ v)
-    → (left : ℕ) (f : ExpressionForm Expression) (ls r : List Lexeme) → form_fits expression_fits f precedence.Highest left ≡ true → Leads (form_written expression_written f) ls r → test ls ≡ v
-factor_first test v on operated left (form.Highest place operator operand) ls r o l = first_is test v (word_at place (highest_text operator)) (operated place operator) (expression_written operand) ls r l
+pub factor_first : (test : List Lexeme → Bool) (v : Bool) → Firsts test v
+    → ((p : Place) (operator : HighestOperator) (k : Lexeme) (ks : List Lexeme) → test (as_written (word_at p (highest_text operator)) k ∷ ks) ≡ v)
+    → (left : ℕ) (f : ExpressionForm Expression) (ls r : List Lexeme) → form_fits expression_fits f precedence.Highest left ≡ true
+    → Leads (form_written expression_written f) ls r → test ls ≡ v
+factor_first test v on operated left (form.Highest place operator operand) ls r o l =
+    first_is test v (word_at place (highest_text operator)) (operated place operator) (expression_written operand) ls r l
 factor_first test v on operated left (form.Logical operator first others) ls r o l = absurd (false≢true o)
 factor_first test v on operated left (form.Relational a place operator b) ls r o l = absurd (false≢true o)
 factor_first test v on operated left (form.Adding first others) ls r o l = absurd (false≢true o)
@@ -100,7 +125,8 @@ factor_first test v on operated left (form.Number place literal) ls r o l = prim
 factor_first test v on operated left (form.Text place text) ls r o l = primary_first test v on left (form.Text place text) ls r o l
 factor_first test v on operated left (form.Null place) ls r o l = primary_first test v on left (form.Null place) ls r o l
 factor_first test v on operated left (form.Bracketed place e) ls r o l = primary_first test v on left (form.Bracketed place e) ls r o l
-factor_first test v on operated left (form.Named name attribute arguments) ls r o l = primary_first test v on left (form.Named name attribute arguments) ls r o l
+factor_first test v on operated left (form.Named name attribute arguments) ls r o l =
+    primary_first test v on left (form.Named name attribute arguments) ls r o l
 
 -- ---- multiplying operators (4.5.5)
 
@@ -110,13 +136,19 @@ MultiplyingDelimiter = Place × MultiplyingOperator
 abbrev pub multiplying_delimiter : MultiplyingDelimiter → List Written
 multiplying_delimiter x = multiplying_written x.1 x.0 ∷ []
 
-by_delimiter : (text : List ℕ) (operator : MultiplyingOperator) → Rest (λ (p : Place). (p, operator)) Any (λ p. delimiter_at p text ∷ []) shapeless always (multiplying_delimiter_of text operator)
+by_delimiter : (text : List ℕ) (operator : MultiplyingOperator)
+    → Rest (λ (p : Place). (p, operator)) Any (λ p. delimiter_at p text ∷ []) shapeless always (multiplying_delimiter_of text operator)
 unfolding multiplying_delimiter_of
-by_delimiter text operator = closing (λ (p : Place). (p, operator)) Any always itself (λ p. delimiter_at p text ∷ []) shapeless (the_delimiter text) itself (delimiter_exact text) (λ a. tt) (λ a. refl) (λ a x p e. e)
+by_delimiter text operator =
+    closing (λ (p : Place). (p, operator)) Any always itself (λ p. delimiter_at p text ∷ []) shapeless (the_delimiter text) itself (delimiter_exact text)
+    (λ a. tt) (λ a. refl) (λ a x p e. e)
 
-by_word : (text : List ℕ) (operator : MultiplyingOperator) → Rest (λ (p : Place). (p, operator)) Any (λ p. word_at p text ∷ []) shapeless always (multiplying_word_of text operator)
+by_word : (text : List ℕ) (operator : MultiplyingOperator)
+    → Rest (λ (p : Place). (p, operator)) Any (λ p. word_at p text ∷ []) shapeless always (multiplying_word_of text operator)
 unfolding multiplying_word_of
-by_word text operator = closing (λ (p : Place). (p, operator)) Any always itself (λ p. word_at p text ∷ []) shapeless (the_word text) itself (word_exact text) (λ a. tt) (λ a. refl) (λ a x p e. e)
+by_word text operator =
+    closing (λ (p : Place). (p, operator)) Any always itself (λ p. word_at p text ∷ []) shapeless (the_word text) itself (word_exact text) (λ a. tt) (λ a. refl)
+    (λ a x p e. e)
 
 multiplication_sound : Sound itself multiplying_delimiter shapeless multiplication_of
 unfolding multiplication_of
@@ -126,11 +158,14 @@ multiplication_sound =
     (either (sees_word (codes "mod")) (one_form (λ p. (p, multiplying.Modulus)) (by_word (codes "mod") multiplying.Modulus) (λ p. refl) (λ p. refl))
     (one_form (λ p. (p, multiplying.Remainder)) (by_word (codes "rem") multiplying.Remainder) (λ p. refl) (λ p. refl))))
 
-multiplication_complete : (operator : MultiplyingOperator) (p : Place) (ls r : List Lexeme) → Leads (multiplying_written operator p ∷ []) ls r → multiplication_of ls ≡ done (p, operator) r
+multiplication_complete : (operator : MultiplyingOperator) (p : Place) (ls r : List Lexeme) → Leads (multiplying_written operator p ∷ []) ls r
+    → multiplication_of ls ≡ done (p, operator) r
 unfolding multiplication_of starts
-multiplication_complete multiplying.Times p ls r l = rw (sees_delimiter_at_first (codes "*") p [] ls r l) ((by_delimiter (codes "*") multiplying.Times).complete p ls r tt refl l refl)
+multiplication_complete multiplying.Times p ls r l =
+    rw (sees_delimiter_at_first (codes "*") p [] ls r l) ((by_delimiter (codes "*") multiplying.Times).complete p ls r tt refl l refl)
 multiplication_complete multiplying.Divide p ls r l =
-    rw (first_is (sees_delimiter (codes "*")) false (delimiter_at p (codes "/")) (λ k ks. refl) [] ls r l, sees_delimiter_at_first (codes "/") p [] ls r l) ((by_delimiter (codes "/") multiplying.Divide).complete p ls r tt refl l refl)
+    rw (first_is (sees_delimiter (codes "*")) false (delimiter_at p (codes "/")) (λ k ks. refl) [] ls r l, sees_delimiter_at_first (codes "/") p [] ls r l)
+    ((by_delimiter (codes "/") multiplying.Divide).complete p ls r tt refl l refl)
 multiplication_complete multiplying.Modulus p ls r l =
     rw (
       first_is (sees_delimiter (codes "*")) false (word_at p (codes "mod")) (λ k ks. refl) [] ls r l,
@@ -148,8 +183,10 @@ multiplication_exact : Exact multiplying_delimiter shapeless always multiplicati
 multiplication_exact = record { sound = multiplication_sound.by; complete = λ x ls r q o l end. multiplication_complete x.1 x.0 ls r l }
 
 multiplying_first : (test : List Lexeme → Bool) (v : Bool)
-    → ((p : Place) (k : Lexeme) (ks : List Lexeme) → test (as_written (delimiter_at p (codes "*")) k ∷ ks) ≡ v) → ((p : Place) (k : Lexeme) (ks : List Lexeme) → test (as_written (delimiter_at p (codes "/")) k ∷ ks) ≡ v)
-    → ((p : Place) (k : Lexeme) (ks : List Lexeme) → test (as_written (word_at p (codes "mod")) k ∷ ks) ≡ v) → ((p : Place) (k : Lexeme) (ks : List Lexeme) → test (as_written (word_at p (codes "rem")) k ∷ ks) ≡ v)
+    → ((p : Place) (k : Lexeme) (ks : List Lexeme) → test (as_written (delimiter_at p (codes "*")) k ∷ ks) ≡ v)
+    → ((p : Place) (k : Lexeme) (ks : List Lexeme) → test (as_written (delimiter_at p (codes "/")) k ∷ ks) ≡ v)
+    → ((p : Place) (k : Lexeme) (ks : List Lexeme) → test (as_written (word_at p (codes "mod")) k ∷ ks) ≡ v)
+    → ((p : Place) (k : Lexeme) (ks : List Lexeme) → test (as_written (word_at p (codes "rem")) k ∷ ks) ≡ v)
     → (operator : MultiplyingOperator) (p : Place) (ws : List Written) (ls r : List Lexeme) → Leads (multiplying_written operator p ∷ ws) ls r → test ls ≡ v
 multiplying_first test v a b c d multiplying.Times p ws ls r l = first_is test v (delimiter_at p (codes "*")) (a p) ws ls r l
 multiplying_first test v a b c d multiplying.Divide p ws ls r l = first_is test v (delimiter_at p (codes "/")) (b p) ws ls r l
@@ -158,7 +195,9 @@ multiplying_first test v a b c d multiplying.Remainder p ws ls r l = first_is te
 
 begins_multiplied : (m : Multiplied Expression) (ls r : List Lexeme) → Leads (multiplied_written expression_written m) ls r → multiplies ls ≡ true
 unfolding starts
-begins_multiplied m ls r l = multiplying_first multiplies true (λ p k ks. refl) (λ p k ks. refl) (λ p k ks. refl) (λ p k ks. refl) m.operator m.place (expression_written m.factor) ls r l
+begins_multiplied m ls r l =
+    multiplying_first multiplies true (λ p k ks. refl) (λ p k ks. refl) (λ p k ks. refl) (λ p k ks. refl) m.operator m.place
+    (expression_written m.factor) ls r l
 
 -- a token that was seen to multiply ends what stands before it
 multiplies_ends : (r : List Lexeme) → multiplies r ≡ true → ends_designated r ≡ true
@@ -172,14 +211,17 @@ multiplies_ends r e =
 
 module _ (left : ℕ) (inner : Parser Expression) (inside : ReadsInside left inner) where
   -- ("abs" | "not") primary
-  highest_exact : (operator : HighestOperator) → Rest (λ (x : Place × Expression). formed (form.Highest x.0 operator x.1)) Any (λ x. word_at x.0 (highest_text operator) ∷ expression_written x.1)
+  highest_exact : (operator : HighestOperator)
+      → Rest (λ (x : Place × Expression). formed (form.Highest x.0 operator x.1)) Any (λ x. word_at x.0 (highest_text operator) ∷ expression_written x.1)
       (λ x. expression_fits x.1 precedence.Primary left) ends_designated (highest_of left inner operator)
   unfolding highest_of
   highest_exact operator =
       let make : Place × Expression → Expression = λ x. formed (form.Highest x.0 operator x.1) in
-      plain make Any (λ x. expression_written x.1) (λ x. expression_fits x.1 precedence.Primary left) ends_designated (λ x. x.0) (λ p. word_at p (highest_text operator) ∷ []) shapeless always (the_word (highest_text operator)) _
+      plain make Any (λ x. expression_written x.1) (λ x. expression_fits x.1 precedence.Primary left) ends_designated (λ x. x.0)
+      (λ p. word_at p (highest_text operator) ∷ []) shapeless always (the_word (highest_text operator)) _
       (word_exact (highest_text operator)) (λ p. refl) (λ x ls r p l end. refl)
-      (λ place. closing make (λ x. Any x × (place ≡ x.0)) ends_designated (λ x. x.1) expression_written (λ e. expression_fits e precedence.Primary left) (primary_of left inner) (λ e. (place, e))
+      (λ place. closing make (λ x. Any x × (place ≡ x.0)) ends_designated (λ x. x.1) expression_written (λ e. expression_fits e precedence.Primary left)
+      (primary_of left inner) (λ e. (place, e))
       (primary_exact left inner inside) (λ e. (tt, refl)) (λ e. refl) (λ e x p q. rw (p.1, q) refl))
 
   abbrev fits_factor : ExpressionForm Expression → Bool
@@ -188,18 +230,22 @@ module _ (left : ℕ) (inner : Parser Expression) (inside : ReadsInside left inn
   factor_sound : Sound formed (form_written expression_written) fits_factor (factor_of left inner)
   unfolding factor_of
   factor_sound =
-      either (sees_word (codes "abs")) (one_form (λ (x : Place × Expression). form.Highest x.0 highest.Absolute x.1) (highest_exact highest.Absolute) (λ x. refl) (λ x. refl))
-      (either (sees_word (codes "not")) (one_form (λ (x : Place × Expression). form.Highest x.0 highest.Not x.1) (highest_exact highest.Not) (λ x. refl) (λ x. refl))
+      either (sees_word (codes "abs"))
+      (one_form (λ (x : Place × Expression). form.Highest x.0 highest.Absolute x.1) (highest_exact highest.Absolute) (λ x. refl) (λ x. refl))
+      (either (sees_word (codes "not"))
+      (one_form (λ (x : Place × Expression). form.Highest x.0 highest.Not x.1) (highest_exact highest.Not) (λ x. refl) (λ x. refl))
       (loosened (primary_sound left inner inside) (λ f o. looser precedence.Highest precedence.Primary left f refl o)))
 
-  no_operator : (f : ExpressionForm Expression) (ls r : List Lexeme) → form_fits expression_fits f precedence.Primary left ≡ true → Leads (form_written expression_written f) ls r → ends_designated r ≡ true
+  no_operator : (f : ExpressionForm Expression) (ls r : List Lexeme) → form_fits expression_fits f precedence.Primary left ≡ true
+      → Leads (form_written expression_written f) ls r → ends_designated r ≡ true
       → factor_of left inner ls ≡ done (formed f) r
   unfolding factor_of
   no_operator f ls r o l end =
       rw (primary_first (sees_word (codes "abs")) false abs_first left f ls r o l, primary_first (sees_word (codes "not")) false not_first left f ls r o l)
       (primary_complete left inner inside f ls r o l end)
 
-  factor_complete : (f : ExpressionForm Expression) (ls r : List Lexeme) → fits_factor f ≡ true → Leads (form_written expression_written f) ls r → ends_designated r ≡ true → factor_of left inner ls ≡ done (formed f) r
+  factor_complete : (f : ExpressionForm Expression) (ls r : List Lexeme) → fits_factor f ≡ true → Leads (form_written expression_written f) ls r
+      → ends_designated r ≡ true → factor_of left inner ls ≡ done (formed f) r
   unfolding factor_of starts
   factor_complete (form.Logical operator first others) ls r o l end = absurd (false≢true o)
   factor_complete (form.Relational a place operator b) ls r o l end = absurd (false≢true o)
@@ -207,9 +253,13 @@ module _ (left : ℕ) (inner : Parser Expression) (inside : ReadsInside left inn
   factor_complete (form.Signed place sign operand) ls r o l end = absurd (false≢true o)
   factor_complete (form.Multiplying first others) ls r o l end = absurd (false≢true o)
   factor_complete (form.Highest place highest.Absolute operand) ls r o l end =
-      rw (sees_word_at_first (codes "abs") place (expression_written operand) ls r l) ((highest_exact highest.Absolute).complete (place, operand) ls r tt o l end)
+      rw (sees_word_at_first (codes "abs") place (expression_written operand) ls r l)
+      ((highest_exact highest.Absolute).complete (place, operand) ls r tt o l end)
   factor_complete (form.Highest place highest.Not operand) ls r o l end =
-      rw (first_is (sees_word (codes "abs")) false (word_at place (codes "not")) (λ k ks. refl) (expression_written operand) ls r l, sees_word_at_first (codes "not") place (expression_written operand) ls r l)
+      rw (
+        first_is (sees_word (codes "abs")) false (word_at place (codes "not")) (λ k ks. refl) (expression_written operand) ls r l,
+        sees_word_at_first (codes "not") place (expression_written operand) ls r l,
+      )
       ((highest_exact highest.Not).complete (place, operand) ls r tt o l end)
   factor_complete (form.Number place literal) ls r o l end = no_operator (form.Number place literal) ls r o l end
   factor_complete (form.Text place text) ls r o l end = no_operator (form.Text place text) ls r o l end
@@ -224,9 +274,11 @@ module _ (left : ℕ) (inner : Parser Expression) (inside : ReadsInside left inn
   multiplied_exact : Exact (multiplied_written expression_written) (multiplied_fits expression_fits left) ends_designated (multiplied_of left inner)
   unfolding multiplied_of
   multiplied_exact =
-      plain itself Any (λ m. expression_written m.factor) (multiplied_fits expression_fits left) ends_designated (λ m. (m.place, m.operator)) multiplying_delimiter shapeless always multiplication_of _
+      plain itself Any (λ m. expression_written m.factor) (multiplied_fits expression_fits left) ends_designated
+      (λ m. (m.place, m.operator)) multiplying_delimiter shapeless always multiplication_of _
       multiplication_exact (λ x. refl) (λ m ls r p l end. refl)
-      (λ x. closing itself (λ m. Any m × (x ≡ (m.place, m.operator))) ends_designated (λ m. m.factor) expression_written (λ e. expression_fits e precedence.Highest left) (factor_of left inner)
+      (λ x. closing itself (λ m. Any m × (x ≡ (m.place, m.operator))) ends_designated (λ m. m.factor) expression_written
+      (λ e. expression_fits e precedence.Highest left) (factor_of left inner)
       (λ e. record { place = x.0; operator = x.1; factor = e }) factor_exact (λ e. (tt, refl)) (λ e. refl) (λ e m p q. rw (p.1, q) refl))
 
   abbrev Products : Type 0
@@ -238,25 +290,33 @@ module _ (left : ℕ) (inner : Parser Expression) (inside : ReadsInside left inn
   no_product : (r : List Lexeme) → ends_term r ≡ true → multiplies r ≡ false
   no_product r end = not-true (multiplies r) (second_true (ends_designated r) (not (multiplies r)) end)
 
-  behind_product : (others : List (Multiplied Expression)) (ls r : List Lexeme) → Leads (flat_map (multiplied_written expression_written) others) ls r → ends_term r ≡ true → ends_designated ls ≡ true
+  behind_product : (others : List (Multiplied Expression)) (ls r : List Lexeme) → Leads (flat_map (multiplied_written expression_written) others) ls r
+      → ends_term r ≡ true → ends_designated ls ≡ true
   behind_product [] ls r l end = subst (λ (z : List Lexeme). ends_designated z ≡ true) (sym l) (ends_factor r end)
   behind_product (m ∷ others) ls r l end =
       let t = leads_through (multiplied_written expression_written m) (flat_map (multiplied_written expression_written) others) ls r l in
       multiplies_ends ls (begins_multiplied m ls t.middle t.first)
 
-  product_exact : (first : Expression) → Rest (λ (xs : Products). formed (form.Multiplying first xs)) Any (all_written (multiplied_written expression_written)) (all_fit (multiplied_fits expression_fits left)) ends_term (product_of left inner first)
+  product_exact : (first : Expression)
+      → Rest (λ (xs : Products). formed (form.Multiplying first xs)) Any (all_written (multiplied_written expression_written))
+      (all_fit (multiplied_fits expression_fits left)) ends_term (product_of left inner first)
   unfolding product_of starts
   product_exact first =
       let make : Products → Expression = λ xs. formed (form.Multiplying first xs) in
-      field make Any (λ xs. flat_map (multiplied_written expression_written) xs.others) (λ xs. list_all (multiplied_fits expression_fits left) xs.others) ends_term
-      (λ xs. xs.first) (multiplied_written expression_written) (multiplied_fits expression_fits left) ends_designated (multiplied_of left inner) _ multiplied_exact
+      field make Any (λ xs. flat_map (multiplied_written expression_written) xs.others)
+      (λ xs. list_all (multiplied_fits expression_fits left) xs.others) ends_term
+      (λ xs. xs.first) (multiplied_written expression_written) (multiplied_fits expression_fits left) ends_designated
+      (multiplied_of left inner) _ multiplied_exact
       (λ xs ls r p l end. behind_product xs.others ls r l end)
-      (λ second. closing make (λ xs. Any xs × (second ≡ xs.first)) ends_term (λ xs. xs.others) (flat_map (multiplied_written expression_written)) (list_all (multiplied_fits expression_fits left))
+      (λ second. closing make (λ xs. Any xs × (second ≡ xs.first)) ends_term (λ xs. xs.others) (flat_map (multiplied_written expression_written))
+      (list_all (multiplied_fits expression_fits left))
       (items_of multiplies (multiplied_of left inner)) (λ others. record { first = second; others = others })
-      (listed multiplies (multiplied_written expression_written) (multiplied_fits expression_fits left) ends_designated ends_term (multiplied_of left inner) multiplied_exact begins_multiplied refl multiplies_ends ends_factor no_product)
+      (listed multiplies (multiplied_written expression_written) (multiplied_fits expression_fits left) ends_designated ends_term
+      (multiplied_of left inner) multiplied_exact begins_multiplied refl multiplies_ends ends_factor no_product)
       (λ others. (tt, refl)) (λ others. refl) (λ others xs p e. rw (p.1, e) refl))
 
-  term_level : (f : ExpressionForm Expression) → form_fits expression_fits f precedence.Multiplying left ≡ true → Level Products (λ first xs. form.Multiplying first xs) precedence.Highest left f
+  term_level : (f : ExpressionForm Expression) → form_fits expression_fits f precedence.Multiplying left ≡ true
+      → Level Products (λ first xs. form.Multiplying first xs) precedence.Highest left f
   term_level (form.Multiplying first others) o = This first others refl
   term_level (form.Logical operator first others) o = absurd (false≢true o)
   term_level (form.Relational a place operator b) o = absurd (false≢true o)
@@ -277,6 +337,8 @@ module _ (left : ℕ) (inner : Parser Expression) (inside : ReadsInside left inn
   pub term_exact : Exact expression_written (λ e. expression_fits e precedence.Multiplying left) ends_term (term_of left inner)
   unfolding term_of
   term_exact =
-      level_exact left precedence.Multiplying precedence.Highest (λ first xs. form.Multiplying first xs) (all_written (multiplied_written expression_written)) (all_fit (multiplied_fits expression_fits left))
-      ends_designated ends_term multiplies (factor_of left inner) (product_of left inner) factor_exact product_exact (λ first xs. refl) (λ first xs. refl) term_level
+      level_exact left precedence.Multiplying precedence.Highest (λ first xs. form.Multiplying first xs) (all_written (multiplied_written expression_written))
+      (all_fit (multiplied_fits expression_fits left))
+      ends_designated ends_term multiplies (factor_of left inner) (product_of left inner) factor_exact product_exact (λ first xs. refl)
+      (λ first xs. refl) term_level
       (λ f o. looser precedence.Multiplying precedence.Highest left f refl o) begins_products multiplies_ends ends_factor no_product

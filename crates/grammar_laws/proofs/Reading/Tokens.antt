@@ -9,9 +9,12 @@ use Rattle.ada_lex.specs.declared.tokens.Kind.{Kind}
 use Rattle.ada_lex.specs.declared.tokens.Kind.TheVariants as kinds
 use Rattle.ada_lex.specs.Reserved.{is_reserved}
 use Rattle.ada_tree.specs.declared.names.Identifier.{Identifier}
-use Rattle.ada_tree.specs.Written.{Written, Lexeme, Spells, word, word_at, delimiter, delimiter_at, number_at, text_at, identifier_written, one_identifier, flag}
+use Rattle.ada_tree.specs.Written.{Written, Lexeme, Spells, word, word_at, delimiter, delimiter_at}
+use Rattle.ada_tree.specs.Written.{number_at, text_at, identifier_written, one_identifier, flag}
 use Rattle.ada_grammar.specs.declared.stuck.Stuck.TheVariants as stuck
-use Rattle.ada_grammar.specs.Reading.{Read, Parser, and_then, ◌>>=◌, pure, choose, is_word, is_number, is_text, is_delimiter, is_this_word, is_this_delimiter, is_identifier, is_numeral, is_string, starts, token, sees_word, sees_delimiter, sees_identifier, the_word, the_delimiter, an_identifier, a_number, a_text, flag_of}
+use Rattle.ada_grammar.specs.Reading.{Read, Parser, and_then, ◌>>=◌, pure, choose, is_word, is_number, is_text, is_delimiter}
+use Rattle.ada_grammar.specs.Reading.{is_this_word, is_this_delimiter, is_identifier, is_numeral, is_string, starts, token, sees_word}
+use Rattle.ada_grammar.specs.Reading.{sees_delimiter, sees_identifier, the_word, the_delimiter, an_identifier, a_number, a_text, flag_of}
 use Rattle.grammar_laws.specs.Leads.{Leads}
 use Rattle.grammar_laws.proofs.Reading.Leading.{spelt_is}
 use Rattle.grammar_laws.proofs.Reading.Exact.{done, pair_of, parts, Found, Rest, Any, itself, Exact, first_true, second_true, fixed}
@@ -69,7 +72,8 @@ unfolding token
 one_read test [] l r e = absurd cc
 one_read test (first ∷ ls) l r e = by_test (test first) refl e
   where
-    by_test : (v : Bool) → test first ≡ v → cond {A = Read Lexeme} v (Ok (first, ls)) (Err (stuck.At (length (first ∷ ls)))) ≡ done l r → One test (first ∷ ls) l r
+    by_test : (v : Bool) → test first ≡ v → cond {A = Read Lexeme} v (Ok (first, ls)) (Err (stuck.At (length (first ∷ ls)))) ≡ done l r
+        → One test (first ∷ ls) l r
     by_test true p e =
         let is = pair_of first l ls r e in
         record { parts = ap (λ z. first ∷ z) is.1 ∙ ap (λ z. z ∷ r) is.0; passes = subst (λ (x : Lexeme). test x ≡ true) is.0 p }
@@ -160,7 +164,8 @@ pub word_then : {X I : Type 0} (make : I → X) (P : I → Type 0) (w : I → Li
     → Rest make P w ok ends k → Rest make P (λ i. word text ∷ w i) ok ends (the_word text >>= (λ a. k))
 word_then make P w ok ends text k more = fixed make P w ok ends (word text) (the_word text) k (word_was text) (word_there text) more
 
-pub delimiter_then : {X I : Type 0} (make : I → X) (P : I → Type 0) (w : I → List Written) (ok : I → Bool) (ends : List Lexeme → Bool) (text : List ℕ) (k : Parser X)
+pub delimiter_then : {X I : Type 0} (make : I → X) (P : I → Type 0) (w : I → List Written) (ok : I → Bool) (ends : List Lexeme → Bool) (text : List ℕ)
+    (k : Parser X)
     → Rest make P w ok ends k → Rest make P (λ i. delimiter text ∷ w i) ok ends (the_delimiter text >>= (λ a. k))
 delimiter_then make P w ok ends text k more = fixed make P w ok ends (delimiter text) (the_delimiter text) k (delimiter_was text) (delimiter_there text) more
 
@@ -214,7 +219,8 @@ unfolding starts
 sees_delimiter_first text ws [] r l = absurd l
 sees_delimiter_first text ws (l ∷ ls) r s = rw (← s.0.kind, ← s.0.text) (text_same text)
 
-pub sees_delimiter_at_first : (text : List ℕ) (p : Place) (ws : List Written) (ls r : List Lexeme) → Leads (delimiter_at p text ∷ ws) ls r → sees_delimiter text ls ≡ true
+pub sees_delimiter_at_first : (text : List ℕ) (p : Place) (ws : List Written) (ls r : List Lexeme) → Leads (delimiter_at p text ∷ ws) ls r
+    → sees_delimiter text ls ≡ true
 unfolding starts
 sees_delimiter_at_first text p ws [] r l = absurd l
 sees_delimiter_at_first text p ws (l ∷ ls) r s = rw (← s.0.kind, ← s.0.text) (text_same text)
@@ -235,7 +241,8 @@ sees_identifier_first i ws [] r l = absurd l
 sees_identifier_first i ws (l ∷ ls) r s = rw (← s.0.kind, s.0.identifier) refl
 
 -- an identifier is no reserved word
-pub identifier_no_word : (text : List ℕ) → is_reserved text ≡ true → (i : Identifier) (ws : List Written) (ls r : List Lexeme) → Leads (identifier_written i ∷ ws) ls r → sees_word text ls ≡ false
+pub identifier_no_word : (text : List ℕ) → is_reserved text ≡ true → (i : Identifier) (ws : List Written) (ls r : List Lexeme)
+    → Leads (identifier_written i ∷ ws) ls r → sees_word text ls ≡ false
 unfolding starts
 identifier_no_word text reserved i ws [] r l = absurd l
 identifier_no_word text reserved i ws (l ∷ ls) r s = by_test (bytes_eq l.text text) refl
@@ -249,13 +256,16 @@ identifier_no_word text reserved i ws (l ∷ ls) r s = by_test (bytes_eq l.text 
     by_test true e = absurd (false≢true (sym s.0.identifier ∙ (ap is_reserved (same_text l.text text e) ∙ reserved)))
 
 -- a token that was seen, so another test of it computes
-pub seen_delimiter : (test : List Lexeme → Bool) (v : Bool) (text : List ℕ) → ((p : Place) (ls : List Lexeme) → test (record { kind = kinds.Delimiter; text = text; place = p } ∷ ls) ≡ v)
+pub seen_delimiter : (test : List Lexeme → Bool) (v : Bool) (text : List ℕ)
+    → ((p : Place) (ls : List Lexeme) → test (record { kind = kinds.Delimiter; text = text; place = p } ∷ ls) ≡ v)
     → (ls : List Lexeme) → sees_delimiter text ls ≡ true → test ls ≡ v
 unfolding starts
 seen_delimiter test v text on [] e = absurd (false≢true e)
-seen_delimiter test v text on (l ∷ ls) e = subst (λ (z : Lexeme). test (z ∷ ls) ≡ v) (spelt_is (delimiter_at l.place text) l (delimiter_spelt text l e)) (on l.place ls)
+seen_delimiter test v text on (l ∷ ls) e =
+    subst (λ (z : Lexeme). test (z ∷ ls) ≡ v) (spelt_is (delimiter_at l.place text) l (delimiter_spelt text l e)) (on l.place ls)
 
-pub seen_word : (test : List Lexeme → Bool) (v : Bool) (text : List ℕ) → ((p : Place) (ls : List Lexeme) → test (record { kind = kinds.Word; text = text; place = p } ∷ ls) ≡ v)
+pub seen_word : (test : List Lexeme → Bool) (v : Bool) (text : List ℕ)
+    → ((p : Place) (ls : List Lexeme) → test (record { kind = kinds.Word; text = text; place = p } ∷ ls) ≡ v)
     → (ls : List Lexeme) → sees_word text ls ≡ true → test ls ≡ v
 unfolding starts
 seen_word test v text on [] e = absurd (false≢true e)
@@ -263,11 +273,19 @@ seen_word test v text on (l ∷ ls) e = subst (λ (z : Lexeme). test (z ∷ ls) 
 
 -- ---- a word that may be missing
 
-flagged : (text : List ℕ) (ls : List Lexeme) (x : Bool) (r : List Lexeme) (v : Bool) → cond {A = Read Bool} v (and_then (the_word text ls) (λ a. pure true)) (done false ls) ≡ done x r → Found itself Any (λ b. flag b (word text ∷ [])) shapeless x ls r
+flagged : (text : List ℕ) (ls : List Lexeme) (x : Bool) (r : List Lexeme) (v : Bool)
+    → cond {A = Read Bool} v (and_then (the_word text ls) (λ a. pure true)) (done false ls) ≡ done x r
+    → Found itself Any (λ b. flag b (word text ∷ [])) shapeless x ls r
 flagged text ls x r true e =
     let s = parts (the_word text ls) (λ a. pure true) x r e in
     let n = pair_of true x s.rest r s.then in
-    record { item = true; is = n.0; fits = tt; leads = subst (λ (z : List Lexeme). Leads (word text ∷ []) ls z) n.1 (word_was text ls s.value s.rest s.is); shaped = refl }
+    record {
+      item = true;
+      is = n.0;
+      fits = tt;
+      leads = subst (λ (z : List Lexeme). Leads (word text ∷ []) ls z) n.1 (word_was text ls s.value s.rest s.is);
+      shaped = refl;
+    }
 flagged text ls x r false e = let n = pair_of false x ls r e in record { item = false; is = n.0; fits = tt; leads = n.1; shaped = refl }
 
 abbrev pub not_word : List ℕ → List Lexeme → Bool
@@ -278,7 +296,8 @@ unfolding starts
 sees_it text [] r l = absurd l
 sees_it text (l ∷ ls) r s = rw (← s.0.kind, ← s.0.text) (text_same text)
 
-unflagged : (text : List ℕ) (b : Bool) (ls r : List Lexeme) → Leads (flag b (word text ∷ [])) ls r → not_word text r ≡ true → choose (sees_word text) (the_word text >>= λ a. pure true) (pure false) ls ≡ done b r
+unflagged : (text : List ℕ) (b : Bool) (ls r : List Lexeme) → Leads (flag b (word text ∷ [])) ls r → not_word text r ≡ true
+    → choose (sees_word text) (the_word text >>= λ a. pure true) (pure false) ls ≡ done b r
 unflagged text false ls r l end = rw (l, not-true (sees_word text r) end) refl
 unflagged text true [] r l end = absurd l
 unflagged text true (l ∷ ls) r s end = let t = word_there text l ls s.0 in rw (sees_it text (l ∷ ls) ls (s.0, refl), t.1, s.1) refl

@@ -20,8 +20,10 @@ use Rattle.grammar_laws.proofs.Reading.Units.{source_sound, source_complete}
 
 pub expression_is_spelt : ExpressionIsSpelt
 expression_is_spelt left ls e r is =
-    let f = (expression_exact left).sound ls e r is in
-    (subst (λ (x : Expression). Leads (expression_written x) ls r) f.is f.leads, subst (λ (x : Expression). expression_fits x precedence.Logical left ≡ true) f.is f.shaped)
+    let f = (expression_exact left).sound ls e r is in (
+      subst (λ (x : Expression). Leads (expression_written x) ls r) f.is f.leads,
+      subst (λ (x : Expression). expression_fits x precedence.Logical left ≡ true) f.is f.shaped,
+    )
 
 -- what a source gives that is read
 record Given (read : Read Tree) (unit : Tree) : Type 0 where
@@ -50,4 +52,5 @@ spelt_is_read unit lexemes spells shaped = rw (source_complete 100 unit lexemes 
 
 pub one_tree_spells : OneTreeSpells
 unfolding tree_in
-one_tree_spells a b lexemes spells_a spells_b shaped_a shaped_b = ap (tree_in a) (sym (spelt_is_read a lexemes spells_a shaped_a) ∙ spelt_is_read b lexemes spells_b shaped_b)
+one_tree_spells a b lexemes spells_a spells_b shaped_a shaped_b =
+    ap (tree_in a) (sym (spelt_is_read a lexemes spells_a shaped_a) ∙ spelt_is_read b lexemes spells_b shaped_b)

@@ -17,7 +17,8 @@ use Rattle.ada_legality.specs.Types.{operand_type}
 use Rattle.ada_legality.specs.Reading.{fitted}
 use Rattle.ada_legality.specs.ReadExpressions.{read_expression}
 use Rattle.ada_legality.specs.CallStatements.{found_if, value_found, value_alone_found}
-use Rattle.ada_legality.specs.SimpleStatements.{assignment_found, assignment_judged, function_around, result_expected, return_found, type_of_index_of, typed_target}
+use Rattle.ada_legality.specs.SimpleStatements.{assignment_found, assignment_judged, function_around}
+use Rattle.ada_legality.specs.SimpleStatements.{result_expected, return_found, type_of_index_of, typed_target}
 use Rattle.ada_image.specs.BuiltExpressions.{expression_built}
 use Rattle.ada_image.specs.BuiltStatements.{assigned_built, source_built}
 use Rattle.image_laws.specs.Clear.{has_values}
@@ -26,7 +27,8 @@ use Rattle.image_laws.proofs.Forms.Nothing.{none-of}
 use Rattle.image_laws.proofs.Forms.Expressions.{expected_expressions_built}
 use Rattle.image_laws.proofs.Forms.Sources.{source-sound}
 
-typed-source : (k : Known) (e : Expression) (t : Typed) → has_values t ≡ true → source_clear e k ≡ true → faults_in (read_expression e k).1 ≡ [] → faults_in (fitted asking.ForValue (operand_type t) (read_expression e k).0) ≡ [] → source_built e k.names ≡ true
+typed-source : (k : Known) (e : Expression) (t : Typed) → has_values t ≡ true → source_clear e k ≡ true → faults_in (read_expression e k).1 ≡ []
+    → faults_in (fitted asking.ForValue (operand_type t) (read_expression e k).0) ≡ [] → source_built e k.names ≡ true
 typed-source k e (typing.OfSubtype s) v c f g = let p = and_parts _ _ c in source-sound k e s.of_type p.0 p.1 (not-true _ v) f g
 typed-source k e typing.OfWholeNumber v c f g = let p = and_parts _ _ c in source-sound k e types.Integer p.0 p.1 refl f g
 typed-source k e typing.OfPointedNumber v c f g = let p = and_parts _ _ c in source-sound k e types.Duration p.0 p.1 refl f g
@@ -37,14 +39,17 @@ whole-sound true c x e = refl
 whole-sound false true x e = refl
 whole-sound false false x e = e
 
-index-sound : (k : Known) (t : Option AdaType) (i : Expression) → target_index_clear t (Some i) k ≡ true → faults_in (value_found t i k) ≡ [] → expression_built i k.names ≡ true
+index-sound : (k : Known) (t : Option AdaType) (i : Expression) → target_index_clear t (Some i) k ≡ true → faults_in (value_found t i k) ≡ []
+    → expression_built i k.names ≡ true
 unfolding value_found
 index-sound k None i c f = absurd (false≢true c)
 index-sound k (Some t) i c f = let p = and_parts _ _ c in expected_expressions_built k i asking.ForValue t p.1 (not-true _ p.0) f
 
-target-sound : (k : Known) (a : Assignment) (i : Option Expression) → source_built a.value k.names ≡ true → target_index_clear (type_of_index_of k a.target) i k ≡ true
+target-sound : (k : Known) (a : Assignment) (i : Option Expression) → source_built a.value k.names ≡ true
+    → target_index_clear (type_of_index_of k a.target) i k ≡ true
     → faults_in (found_if (value_found (type_of_index_of k a.target)) i k) ≡ [] → assigned_built a i k.names ≡ true
-target-sound k a None s c f = whole-sound (subtype_is is_kept (subtype_of_name k.names a.target)) (subtype_is is_array_type (subtype_of_name k.names a.target)) _ s
+target-sound k a None s c f =
+    whole-sound (subtype_is is_kept (subtype_of_name k.names a.target)) (subtype_is is_array_type (subtype_of_name k.names a.target)) _ s
 target-sound k a (Some i) s c f = and_from _ _ (index-sound k (type_of_index_of k a.target) i c f) s
 
 pub read_assignments_built : ReadAssignmentsBuilt
@@ -60,7 +65,8 @@ read_assignments_built k a c f =
 
 -- ---- returns
 
-returned-sound : (k : Known) (t : Option AdaType) (e : Expression) → has_value_type t ≡ true → source_clear e k ≡ true → faults_in (value_alone_found t e k) ≡ [] → source_built e k.names ≡ true
+returned-sound : (k : Known) (t : Option AdaType) (e : Expression) → has_value_type t ≡ true → source_clear e k ≡ true
+    → faults_in (value_alone_found t e k) ≡ [] → source_built e k.names ≡ true
 unfolding value_alone_found
 returned-sound k None e h c f = absurd (false≢true h)
 returned-sound k (Some t) e h c f = let p = and_parts _ _ c in let q = none-of _ _ f in source-sound k e t p.0 p.1 (not-true _ h) q.0 q.1

@@ -46,7 +46,8 @@ module _ (k : Known) (name : Name) where
   access-none false None v = false≢true v
   access-none false (Some d) v = no-handler (is_library_handler k name) (entity_of_name k name) v
 
-  entry-counted : (kind : Option EntityKind) → has_values (cond (holds_of (has_count k) kind) (typed_as types.Integer) typing.WithoutType) ≡ true → is_entry kind ≡ true
+  entry-counted : (kind : Option EntityKind) → has_values (cond (holds_of (has_count k) kind) (typed_as types.Integer) typing.WithoutType) ≡ true
+      → is_entry kind ≡ true
   unfolding has_count
   entry-counted None v = absurd (false≢true v)
   entry-counted (Some (entity.Entry number unit formals)) v = refl
@@ -58,7 +59,8 @@ module _ (k : Known) (name : Name) where
   count-entry false None v = absurd (false≢true v)
   count-entry false (Some d) v = entry-counted (denoted_kind k.names d) v
 
-  pub attribute-well : (a : Attribute) (has_arguments : Bool) → has_values (typed_attribute_of k name a has_arguments) ≡ true → ends_clear k.names name a ≡ true → attribute_built k.names name a ≡ true
+  pub attribute-well : (a : Attribute) (has_arguments : Bool) → has_values (typed_attribute_of k name a has_arguments) ≡ true → ends_clear k.names name a ≡ true
+      → attribute_built k.names name a ≡ true
   unfolding typed_attribute_of
   attribute-well attribute.First has v c = c
   attribute-well attribute.Last has v c = c

@@ -1,5 +1,6 @@
 -- The actuals of a call of what the source declares are built, where no rule of actuals is broken.
-use Rattle.std.proofs.Common.{◌≡◌, ℕ, suc, Bool, true, false, cond, not, ◌&&◌, List, [], ◌∷◌, ◌++◌, map, Option, Some, None, option_map, is_some, refl, sym, ap, subst, ◌∙◌}
+use Rattle.std.proofs.Common.{◌≡◌, ℕ, suc, Bool, true, false, cond, not, ◌&&◌, List, [], ◌∷◌, ◌++◌}
+use Rattle.std.proofs.Common.{map, Option, Some, None, option_map, is_some, refl, sym, ap, subst, ◌∙◌}
 use Rattle.std.specs.Prelude.{⊤, unwrap_or}
 use Rattle.std.specs.List.{list_all}
 use Rattle.std.proofs.lemmas.Bool.{and_from, and_parts, false≢true}
@@ -60,14 +61,20 @@ module _ (k : Known) where
   Sounds [] = ⊤
   Sounds (a ∷ rest) = Sound a.value × Sounds rest
 
-  pub sounds : (xs : List (Argument Expression)) → faults_in (arguments_read read_expression xs k).1 ≡ [] → arguments_clear expression_clear xs k ≡ true → Sounds xs
+  pub sounds : (xs : List (Argument Expression)) → faults_in (arguments_read read_expression xs k).1 ≡ [] → arguments_clear expression_clear xs k ≡ true
+      → Sounds xs
   unfolding arguments_read
   sounds [] f c = tt
   sounds (a ∷ rest) f c =
       let parts = and_parts _ _ c in
       let p = none-of _ _ f in
-      let q = none-of _ _ p.1 in
-      (record { operand = well-operand ((expression-law a.value).at k p.0 parts.0) (no-call (read_of a.value) q.0); variable = variable-well a.value k p.0 parts.0 }, sounds rest q.1 parts.1)
+      let q = none-of _ _ p.1 in (
+        record {
+          operand = well-operand ((expression-law a.value).at k p.0 parts.0) (no-call (read_of a.value) q.0);
+          variable = variable-well a.value k p.0 parts.0;
+        },
+        sounds rest q.1 parts.1,
+      )
 
   -- ---- the actual of a formal
 
@@ -75,7 +82,8 @@ module _ (k : Known) where
   chosen true e s = refl
   chosen false e s = refl
 
-  pub found-from : (number : ℕ) (name : List ℕ) (at : ℕ) (xs : List (Argument Expression)) → actual_from number name at (actuals_of xs) ≡ option_map read_of (argument_from number name at xs)
+  pub found-from : (number : ℕ) (name : List ℕ) (at : ℕ) (xs : List (Argument Expression))
+      → actual_from number name at (actuals_of xs) ≡ option_map read_of (argument_from number name at xs)
   unfolding actual_from argument_from arguments_read
   found-from number name at [] = refl
   found-from number name at (a ∷ rest) =
@@ -83,12 +91,14 @@ module _ (k : Known) where
       ∙ ap (λ t. cond (is_for_formal number name at a.formal) (Some (read_of a.value)) t) (found-from number name (suc at) rest)
       ∙ chosen (is_for_formal number name at a.formal) a.value (argument_from number name (suc at) rest)
 
-  pub sound-from : (number : ℕ) (name : List ℕ) (at : ℕ) (xs : List (Argument Expression)) → Sounds xs → (e : Expression) → argument_from number name at xs ≡ Some e → Sound e
+  pub sound-from : (number : ℕ) (name : List ℕ) (at : ℕ) (xs : List (Argument Expression)) → Sounds xs → (e : Expression)
+      → argument_from number name at xs ≡ Some e → Sound e
   unfolding argument_from
   sound-from number name at [] w e q = absurd cc
   sound-from number name at (a ∷ rest) w e q = go (is_for_formal number name at a.formal) (sound-from number name (suc at) rest w.1 e) q
     where
-      go : (b : Bool) → (argument_from number name (suc at) rest ≡ Some e → Sound e) → cond b (Some a.value) (argument_from number name (suc at) rest) ≡ Some e → Sound e
+      go : (b : Bool) → (argument_from number name (suc at) rest ≡ Some e → Sound e) → cond b (Some a.value) (argument_from number name (suc at) rest) ≡ Some e
+          → Sound e
       go true later h = subst Sound (Some-same h) w.0
       go false later h = later h
 
@@ -101,15 +111,19 @@ module _ (k : Known) where
 
   pub assigned-sound : (e : Expression) → Sound e → faults_in (assigning_actual k (read_of e)) ≡ [] → variable_built e k.names ≡ true
   unfolding assigning_actual
-  assigned-sound e w f = w.variable (is-variable (has_type (read_of e).typed) (shape_is_variable (read_of e).shape) w.operand.typed (if-none _ _ (read_of e).place (none-of _ _ f).0))
+  assigned-sound e w f =
+      w.variable
+      (is-variable (has_type (read_of e).typed) (shape_is_variable (read_of e).shape) w.operand.typed (if-none _ _ (read_of e).place (none-of _ _ f).0))
 
-  mode-sound : (m : Mode) (e : Expression) (s : Subtype) → is_thing s.of_type ≡ false → Sound e → faults_in (actual_wanted k m (wanted_subtype (Some s)) (read_of e)) ≡ [] → mode_built m e k.names ≡ true
+  mode-sound : (m : Mode) (e : Expression) (s : Subtype) → is_thing s.of_type ≡ false → Sound e
+      → faults_in (actual_wanted k m (wanted_subtype (Some s)) (read_of e)) ≡ [] → mode_built m e k.names ≡ true
   unfolding actual_wanted
   mode-sound mode.In e s h w f = w.operand.built (fitted-values asking.ForActual (read_of e) s.of_type h (none-of _ _ f).0 w.operand.typed)
   mode-sound mode.Out e s h w f = assigned-sound e w (none-of _ _ f).1
   mode-sound mode.InOut e s h w f = assigned-sound e w (none-of _ _ f).1
 
-  wanted-sound : (s : Option Subtype) (m : Mode) (e : Expression) → is_some s ≡ true → Sound e → faults_in (actual_wanted k m (wanted_subtype s) (read_of e)) ≡ [] → cond (subtype_is is_thing s) true (mode_built m e k.names) ≡ true
+  wanted-sound : (s : Option Subtype) (m : Mode) (e : Expression) → is_some s ≡ true → Sound e
+      → faults_in (actual_wanted k m (wanted_subtype s) (read_of e)) ≡ [] → cond (subtype_is is_thing s) true (mode_built m e k.names) ≡ true
   wanted-sound None m e t w f = absurd (false≢true t)
   wanted-sound (Some s) m e t w f = go (is_thing s.of_type) refl
     where
@@ -120,7 +134,8 @@ module _ (k : Known) where
   -- ---- all formals
 
   module _ (xs : List (Argument Expression)) (w : Sounds xs) (whole : List FormalPart) where
-    one-sound : (f : Formal) (number : ℕ) → is_some (actual_from number f.name 0 (actuals_of xs)) ≡ true → is_some f.subtype ≡ true → faults_in (actual_if k (formal_part f) (actual_from number f.name 0 (actuals_of xs))) ≡ []
+    one-sound : (f : Formal) (number : ℕ) → is_some (actual_from number f.name 0 (actuals_of xs)) ≡ true → is_some f.subtype ≡ true
+        → faults_in (actual_if k (formal_part f) (actual_from number f.name 0 (actuals_of xs))) ≡ []
         → actual_built f (argument_from number f.name 0 xs) k.names ≡ true
     one-sound f number t s n = go (argument_from number f.name 0 xs) refl
       where
@@ -130,17 +145,21 @@ module _ (k : Known) where
             wanted-sound f.subtype f.mode e s (sound-from number f.name 0 xs w e q)
             (sym (ap (λ r. faults_in (actual_if k (formal_part f) r)) (found-from number f.name 0 xs ∙ ap (option_map read_of) q)) ∙ n)
 
-    each-sound : (fs : List Formal) (number : ℕ) → Spread whole number (map formal_part fs) → list_all (is_given whole (actuals_of xs)) (map formal_part fs) ≡ true
-        → faults_in (actuals_fitted k number (map formal_part fs) (actuals_of xs)) ≡ [] → types_clear fs ≡ true → actuals_built fs (arguments_from number (names_of fs) xs) k.names ≡ true
+    each-sound : (fs : List Formal) (number : ℕ) → Spread whole number (map formal_part fs)
+        → list_all (is_given whole (actuals_of xs)) (map formal_part fs) ≡ true
+        → faults_in (actuals_fitted k number (map formal_part fs) (actuals_of xs)) ≡ [] → types_clear fs ≡ true
+        → actuals_built fs (arguments_from number (names_of fs) xs) k.names ≡ true
     unfolding actuals_fitted arguments_from
     each-sound [] number s g n t = refl
     each-sound (f ∷ fs) number s g n t =
         let given = and_parts _ _ g in
         let typed = and_parts _ _ t in
         let p = none-of _ _ n in
-        and_from _ _ (one-sound f number (given-found whole number f.name s.0 (actuals_of xs) 0 given.0) typed.0 p.0) (each-sound fs (suc number) s.1 given.1 p.1 typed.1)
+        and_from _ _ (one-sound f number (given-found whole number f.name s.0 (actuals_of xs) 0 given.0) typed.0 p.0)
+        (each-sound fs (suc number) s.1 given.1 p.1 typed.1)
 
-pub all-there : (place : Place) (formals : List FormalPart) (actuals : List ActualPart) → faults_in (wrong_actuals place formals actuals) ≡ [] → list_all (is_given formals actuals) formals ≡ true
+pub all-there : (place : Place) (formals : List FormalPart) (actuals : List ActualPart) → faults_in (wrong_actuals place formals actuals) ≡ []
+    → list_all (is_given formals actuals) formals ≡ true
 unfolding wrong_actuals all_given
 all-there place formals actuals e =
     let p = none-of _ _ e in
@@ -150,8 +169,10 @@ same-names : (fs : List Formal) → map (λ (f : FormalPart). f.name) (map forma
 same-names [] = refl
 same-names (f ∷ fs) = ap (λ ns. f.name ∷ ns) (same-names fs)
 
-pub actuals-sound : (k : Known) (place : Place) (formals : List Formal) (xs : List (Argument Expression)) → formals_clear formals ≡ true → arguments_clear expression_clear xs k ≡ true
-    → faults_in (arguments_read read_expression xs k).1 ≡ [] → faults_in (actuals_judged k place (map formal_part formals) (arguments_read read_expression xs k).0) ≡ [] → arguments_built formals xs k.names ≡ true
+pub actuals-sound : (k : Known) (place : Place) (formals : List Formal) (xs : List (Argument Expression)) → formals_clear formals ≡ true
+    → arguments_clear expression_clear xs k ≡ true
+    → faults_in (arguments_read read_expression xs k).1 ≡ []
+    → faults_in (actuals_judged k place (map formal_part formals) (arguments_read read_expression xs k).0) ≡ [] → arguments_built formals xs k.names ≡ true
 unfolding actuals_judged actuals_numbered actuals_for
 actuals-sound k place formals xs c a f g =
     let clear = and_parts _ _ c in
@@ -164,8 +185,10 @@ read_actuals_built k place formals xs c a f = let p = none-of _ _ f in actuals-s
 
 -- ---- call statements
 
-module _ (k : Known) (place : Place) (xs : List (Argument Expression)) (a : arguments_clear expression_clear xs k ≡ true) (f : faults_in (arguments_read read_expression xs k).1 ≡ []) where
-  entity-called : (kind : Option EntityKind) → called_clear kind ≡ true → faults_in (actuals_judged k place (unwrap_or (option_map formals_of_kind kind) []) (actuals_of k xs)) ≡ []
+module _ (k : Known) (place : Place) (xs : List (Argument Expression)) (a : arguments_clear expression_clear xs k ≡ true)
+    (f : faults_in (arguments_read read_expression xs k).1 ≡ []) where
+  entity-called : (kind : Option EntityKind) → called_clear kind ≡ true
+      → faults_in (actuals_judged k place (unwrap_or (option_map formals_of_kind kind) []) (actuals_of k xs)) ≡ []
       → unwrap_or (option_map (λ x. entity_call_built xs x k.names) kind) false ≡ true
   unfolding formals_of_kind
   entity-called (Some (entity.Subprogram number is_function specified formals unit)) c g = actuals-sound k place formals xs c a f g
@@ -180,7 +203,12 @@ module _ (k : Known) (place : Place) (xs : List (Argument Expression)) (a : argu
   denoted-called (Some (denotes.Unit u)) c m g = absurd (false≢true c)
   denoted-called (Some (denotes.Item u item)) c m g = absurd (false≢true c)
   denoted-called (Some (denotes.Entity e)) c m g =
-      entity-called (kind_at k.names e) c (none-of (line_if_put place (actuals_of k xs) (denotes.Entity e)) _ (sym (ap (λ b. faults_in (cond b (line_if_put place (actuals_of k xs) (denotes.Entity e) ++ actuals_judged k place (formals_denoted k (actuals_of k xs) (denotes.Entity e)) (actuals_of k xs)) [])) m) ∙ g)).1
+      entity-called (kind_at k.names e) c
+      (none-of (line_if_put place (actuals_of k xs) (denotes.Entity e)) _
+      (sym (ap (λ b. faults_in
+      (cond b (line_if_put place (actuals_of k xs) (denotes.Entity e)
+      ++ actuals_judged k place (formals_denoted k (actuals_of k xs) (denotes.Entity e)) (actuals_of k xs)) [])) m)
+      ∙ g)).1
 
 pub read_calls_built : ReadCallsBuilt
 unfolding call_found

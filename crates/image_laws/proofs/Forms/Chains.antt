@@ -28,9 +28,11 @@ module _ {E : Type 0} (reading : E → Reading) (clear : E → Clear) (built : E
   abbrev right : E → Known → Read
   right e k = (operand_read same_reading (reading e) k).0
 
-  pub operands-well : (operator : LogicalOperator) (os : List (Operand E)) (left : Read) (k : Known) → faults_in (operands_read same_reading operator left (map (operand_of reading) os) k).1 ≡ []
+  pub operands-well : (operator : LogicalOperator) (os : List (Operand E)) (left : Read) (k : Known)
+      → faults_in (operands_read same_reading operator left (map (operand_of reading) os) k).1 ≡ []
       → operands_clear same_clear (map (operand_of clear) os) k ≡ true → has_type left.typed ≡ true
-      → ChainWell left (operands_read same_reading operator left (map (operand_of reading) os) k).0 (operands_built same_built (map (operand_of built) os) k.names)
+      → ChainWell left (operands_read same_reading operator left (map (operand_of reading) os) k).0
+      (operands_built same_built (map (operand_of built) os) k.names)
   unfolding operands_read with_relation
   operands-well operator [] left k f c t = record { typed = t; built = λ v. (v, refl) }
   operands-well operator (o ∷ os) left k f c t =

@@ -31,7 +31,8 @@ parameter-alone : (s : Option Subtype) (d : Option DeclNo) → has_values (typed
 parameter-alone None d v = absurd (false≢true v)
 parameter-alone (Some s) d v = thing-not (is_thing s.of_type) (is_some d) v
 
-pub entity-alone : (k : Known) (e : ℕ) (kind : Option EntityKind) → has_values (typed_by (and_then kind (subtype_of_object k e))) ≡ true → unwrap_or (option_map (λ x. entity_built x true) kind) false ≡ true
+pub entity-alone : (k : Known) (e : ℕ) (kind : Option EntityKind) → has_values (typed_by (and_then kind (subtype_of_object k e))) ≡ true
+    → unwrap_or (option_map (λ x. entity_built x true) kind) false ≡ true
 unfolding subtype_of_object
 entity-alone k e None v = absurd (false≢true v)
 entity-alone k e (Some (entity.Literal enumeration position)) v = refl
@@ -56,12 +57,14 @@ of-no_thing : (b c : Bool) → b ≡ false → cond b c true ≡ true
 of-no_thing true c e = absurd (false≢true (sym e))
 of-no_thing false c e = refl
 
-parameter-indexed : (n : Names) (s : Option Subtype) (d : Option DeclNo) → has_values (typed_by (subtype_with_index n true s)) ≡ true → object_built s d true ≡ true
+parameter-indexed : (n : Names) (s : Option Subtype) (d : Option DeclNo) → has_values (typed_by (subtype_with_index n true s)) ≡ true
+    → object_built s d true ≡ true
 unfolding subtype_with_index
 parameter-indexed n None d v = absurd (false≢true v)
 parameter-indexed n (Some s) d v = of-no_thing (is_thing s.of_type) (is_some d) (component-thing n s v)
 
-pub entity-indexed : (k : Known) (e : ℕ) (kind : Option EntityKind) → has_values (typed_by (subtype_with_index k.names true (and_then kind (subtype_of_object k e)))) ≡ true
+pub entity-indexed : (k : Known) (e : ℕ) (kind : Option EntityKind)
+    → has_values (typed_by (subtype_with_index k.names true (and_then kind (subtype_of_object k e)))) ≡ true
     → unwrap_or (option_map (λ x. entity_built x true) kind) false ≡ true
 unfolding subtype_of_object subtype_with_index
 entity-indexed k e None v = absurd (false≢true v)

@@ -26,8 +26,11 @@ use Rattle.ada_legality.specs.Faults.{faults_in}
 use Rattle.ada_legality.specs.Places.{place_of}
 use Rattle.ada_legality.specs.Types.{has_type, typed_if, operation_type_of_one}
 use Rattle.ada_legality.specs.Values.{typed_name}
-use Rattle.ada_legality.specs.Reading.{Reading, as_operand, calls_function, expected, is_number, number_read, text_read, bracketed_read, signed_read, signed_judged, first_relation, compared_read, first_term, highest_read, plain_read, with_minus, operation_of_one_judged}
-use Rattle.ada_legality.specs.ReadExpressions.{name_shape, name_read, attribute_read, name_judged, arguments_read, named_expression, operand_read, logical_expression, relational_expression, adding_expression, multiplying_expression, signed_expression, highest_expression, bracketed_expression, form_read, same_reading, read_expression}
+use Rattle.ada_legality.specs.Reading.{Reading, as_operand, calls_function, expected, is_number, number_read, text_read, bracketed_read, signed_read}
+use Rattle.ada_legality.specs.Reading.{signed_judged, first_relation, compared_read, first_term, highest_read, plain_read, with_minus, operation_of_one_judged}
+use Rattle.ada_legality.specs.ReadExpressions.{name_shape, name_read, attribute_read, name_judged, arguments_read, named_expression, operand_read}
+use Rattle.ada_legality.specs.ReadExpressions.{logical_expression, relational_expression, adding_expression, multiplying_expression}
+use Rattle.ada_legality.specs.ReadExpressions.{signed_expression, highest_expression, bracketed_expression, form_read, same_reading, read_expression}
 use Rattle.ada_image.specs.BuiltExpressions.{Built, same_built, denoted_built, named_built, form_built, expression_built}
 use Rattle.image_laws.proofs.Images.Expressions.{argument_of, mapped_form, mapped-twice}
 use Rattle.image_laws.specs.Clear.{Clear, same_clear, named_clear, arguments_clear, attribute_clear, name_clear, form_clear, expression_clear}
@@ -50,8 +53,10 @@ number-no_call shapes.Other e = refl
 number-no_call (shapes.Name n) e = absurd (false≢true e)
 
 -- minus before a number, and before anything else
-minus-well : (at : Place) (r : Read) (built b : Bool) → is_number r.shape ≡ b → ReadWell r built → faults_in (cond b [] (as_operand r ++ operation_of_one_judged at unary.Minus r.typed)) ≡ []
-    → ReadWell (cond b (record (plain_read at r.typed) { literal = option_map (with_minus at) r.literal }) (plain_read at (typed_if (operation_type_of_one unary.Minus r.typed)))) built
+minus-well : (at : Place) (r : Read) (built b : Bool) → is_number r.shape ≡ b → ReadWell r built
+    → faults_in (cond b [] (as_operand r ++ operation_of_one_judged at unary.Minus r.typed)) ≡ []
+    → ReadWell (cond b (record (plain_read at r.typed) { literal = option_map (with_minus at) r.literal })
+    (plain_read at (typed_if (operation_type_of_one unary.Minus r.typed)))) built
 minus-well at r built true q w f = record { typed = w.typed; built = λ v g. w.built v (number-no_call r.shape q) }
 minus-well at r built false q w f =
     let p = none-of _ _ f in
@@ -71,9 +76,11 @@ module _ {E : Type 0} (reading : E → Reading) (clear : E → Clear) (built : E
   read-has k [] = refl
   read-has k (a ∷ rest) = refl
 
-  name-well : (name : Name) (xs : List (Argument E)) (k : Known) → faults_in ((arguments_read same_reading (map (argument_of reading) xs) k).1 ++ name_judged k name (actuals_of reading built k xs)) ≡ []
+  name-well : (name : Name) (xs : List (Argument E)) (k : Known)
+      → faults_in ((arguments_read same_reading (map (argument_of reading) xs) k).1 ++ name_judged k name (actuals_of reading built k xs)) ≡ []
       → (name_clear k name (not (is_empty (actuals_of reading built k xs))) && arguments_clear same_clear (map (argument_of clear) xs) k) ≡ true
-      → ReadWell (name_read k name (not (is_empty (actuals_of reading built k xs)))) (denoted_built same_built (map (argument_of built) xs) (denoted_by k.names name) k.names)
+      → ReadWell (name_read k name (not (is_empty (actuals_of reading built k xs))))
+      (denoted_built same_built (map (argument_of built) xs) (denoted_by k.names name) k.names)
   unfolding name_judged name_read name_shape typed_name
   name-well name xs k f c =
       let parts = and_parts _ _ c in
@@ -83,29 +90,42 @@ module _ {E : Type 0} (reading : E → Reading) (clear : E → Clear) (built : E
       let q = none-of _ _ p.1 in
       record {
         typed = here.0;
-        built = λ v g. denoted-well reading clear built law k (place_of name) xs (arguments-well reading clear built law xs k p.0 parts.1) (denoted_by k.names name) v g known.0 known.1 (unless-none _ _ _ q.0) q.1;
+        built =
+            λ v g. denoted-well reading clear built law k (place_of name) xs (arguments-well reading clear built law xs k p.0 parts.1)
+            (denoted_by k.names name) v g known.0 known.1 (unless-none _ _ _ q.0) q.1;
       }
 
-  named-well : (name : Name) (a : Option AttributeDesignator) (xs : List (Argument E)) (k : Known) → faults_in (named_expression same_reading name a (map (argument_of reading) xs) k).1 ≡ []
-      → named_clear same_clear name a (map (argument_of clear) xs) k ≡ true → ReadWell (named_expression same_reading name a (map (argument_of reading) xs) k).0 (named_built same_built name a (map (argument_of built) xs) k.names)
+  named-well : (name : Name) (a : Option AttributeDesignator) (xs : List (Argument E)) (k : Known)
+      → faults_in (named_expression same_reading name a (map (argument_of reading) xs) k).1 ≡ []
+      → named_clear same_clear name a (map (argument_of clear) xs) k ≡ true
+      → ReadWell (named_expression same_reading name a (map (argument_of reading) xs) k).0
+      (named_built same_built name a (map (argument_of built) xs) k.names)
   unfolding named_expression attribute_read
   named-well name None xs k f c =
       subst (λ h. ReadWell (name_read k name h) (denoted_built same_built (map (argument_of built) xs) (denoted_by k.names name) k.names)) (read-has k xs)
       (name-well name xs k f (ap (λ h. name_clear k name h && arguments_clear same_clear (map (argument_of clear) xs) k) (sym (same-has k xs)) ∙ c))
   named-well name (Some a) xs k f c =
-      let here = and_parts _ _ (and_parts _ _ (ap (λ h. attribute_clear k name a.attribute h && arguments_clear same_clear (map (argument_of clear) xs) k) (sym (same-has k xs ∙ read-has k xs)) ∙ c)).0 in
+      let here =
+      and_parts _ _
+      (and_parts _ _
+      (ap (λ h. attribute_clear k name a.attribute h && arguments_clear same_clear (map (argument_of clear) xs) k) (sym (same-has k xs ∙ read-has k xs))
+      ∙ c)).0 in
       record { typed = here.0; built = λ v g. attribute-well k name a.attribute _ v here.1 }
 
   -- ---- forms
 
-  form-well : (x : ExpressionForm E) (k : Known) → faults_in (form_read same_reading (mapped_form reading x) k).1 ≡ [] → form_clear same_clear (mapped_form clear x) k ≡ true
+  form-well : (x : ExpressionForm E) (k : Known) → faults_in (form_read same_reading (mapped_form reading x) k).1 ≡ []
+      → form_clear same_clear (mapped_form clear x) k ≡ true
       → ReadWell (form_read same_reading (mapped_form reading x) k).0 (form_built same_built (mapped_form built x) k.names)
-  unfolding logical_expression relational_expression adding_expression multiplying_expression signed_expression highest_expression bracketed_expression first_relation compared_read first_term signed_read signed_judged highest_read bracketed_read number_read text_read
+  unfolding logical_expression relational_expression adding_expression multiplying_expression signed_expression highest_expression bracketed_expression
+      first_relation compared_read first_term signed_read signed_judged highest_read bracketed_read number_read text_read
   form-well (form.Logical operator first others) k f c =
       let parts = and_parts _ _ c in
       let p = none-of _ _ f in
       let left = operand-well reading clear built law first k p.0 parts.0 in
-      let chain = operands-well reading clear built law operator (others.first ∷ others.others) (first_relation operator (operand_read same_reading (reading first) k).0) k p.1 parts.1 left.typed in
+      let chain =
+      operands-well reading clear built law operator (others.first ∷ others.others)
+      (first_relation operator (operand_read same_reading (reading first) k).0) k p.1 parts.1 left.typed in
       record { typed = chain.typed; built = λ v g. and_from _ _ (left.built (chain.built v).0) (chain.built v).1 }
   form-well (form.Relational left place operator right) k f c =
       let parts = and_parts _ _ c in
@@ -120,7 +140,9 @@ module _ {E : Type 0} (reading : E → Reading) (clear : E → Clear) (built : E
       let parts = and_parts _ _ c in
       let p = none-of _ _ f in
       let left = operand-well reading clear built law first k p.0 parts.0 in
-      let chain = addends-well reading clear built law (others.first ∷ others.others) (first_term (operand_read same_reading (reading first) k).0) k p.1 parts.1 left.typed in
+      let chain =
+      addends-well reading clear built law (others.first ∷ others.others)
+      (first_term (operand_read same_reading (reading first) k).0) k p.1 parts.1 left.typed in
       record { typed = chain.typed; built = λ v g. and_from _ _ (left.built (chain.built v).0) (chain.built v).1 }
   form-well (form.Signed place sign.Plus operand) k f c =
       let p = none-of _ _ f in
@@ -135,7 +157,9 @@ module _ {E : Type 0} (reading : E → Reading) (clear : E → Clear) (built : E
       let parts = and_parts _ _ c in
       let p = none-of _ _ f in
       let left = operand-well reading clear built law first k p.0 parts.0 in
-      let chain = factors-well reading clear built law (others.first ∷ others.others) (plain_read (operand_read same_reading (reading first) k).0.place (operand_read same_reading (reading first) k).0.typed) k p.1 parts.1 left.typed in
+      let chain =
+      factors-well reading clear built law (others.first ∷ others.others)
+      (plain_read (operand_read same_reading (reading first) k).0.place (operand_read same_reading (reading first) k).0.typed) k p.1 parts.1 left.typed in
       record { typed = chain.typed; built = λ v g. and_from _ _ (left.built (chain.built v).0) (chain.built v).1 }
   form-well (form.Highest place operator operand) k f c =
       let p = none-of _ _ f in
@@ -151,7 +175,8 @@ module _ {E : Type 0} (reading : E → Reading) (clear : E → Clear) (built : E
       record { typed = w.typed; built = λ v g. w.built v (no-call (reading inner k).0 p.1) }
   form-well (form.Named name a arguments) k f c = named-well name a arguments k f c
 
-  pub form-law : (x : ExpressionForm E) → ReadLaw (form_read same_reading (mapped_form reading x)) (form_clear same_clear (mapped_form clear x)) (form_built same_built (mapped_form built x))
+  pub form-law : (x : ExpressionForm E)
+      → ReadLaw (form_read same_reading (mapped_form reading x)) (form_clear same_clear (mapped_form clear x)) (form_built same_built (mapped_form built x))
   form-law x = record { at = form-well x }
 
 -- ---- expressions
@@ -159,11 +184,15 @@ module _ {E : Type 0} (reading : E → Reading) (clear : E → Clear) (built : E
 abbrev Lawful : Expression → Type 0
 Lawful e = ReadLaw (read_expression e) (expression_clear e) (expression_built e)
 
-module _ (x : Expression-F Expression) (y : Expression-F ((e : Expression) × Lawful e)) (is : map-Expression ((e : Expression) × Lawful e) Expression (λ e. e.0) y ≡ x) where
+module _ (x : Expression-F Expression) (y : Expression-F ((e : Expression) × Lawful e))
+    (is : map-Expression ((e : Expression) × Lawful e) Expression (λ e. e.0) y ≡ x) where
   same-layer : {A : Type 0} (f : Expression → A) → mapped_form (λ (e : (e : Expression) × Lawful e). f e.0) y.form ≡ (map-Expression Expression A f x).form
-  same-layer {A} f = sym (mapped-twice f (λ (e : (e : Expression) × Lawful e). e.0) y.form) ∙ ap (λ (z : Expression-F Expression). (map-Expression Expression A f z).form) is
+  same-layer {A} f =
+      sym (mapped-twice f (λ (e : (e : Expression) × Lawful e). e.0) y.form) ∙ ap (λ (z : Expression-F Expression). (map-Expression Expression A f z).form) is
 
-  rolled : {A : Type 0} (step : ExpressionForm A → A) → step (mapped_form (λ (e : (e : Expression) × Lawful e). fold-Expression A (λ z. step z.form) e.0) y.form) ≡ fold-Expression A (λ z. step z.form) (roll-Expression x)
+  rolled : {A : Type 0} (step : ExpressionForm A → A)
+      → step (mapped_form (λ (e : (e : Expression) × Lawful e). fold-Expression A (λ z. step z.form) e.0) y.form)
+      ≡ fold-Expression A (λ z. step z.form) (roll-Expression x)
   rolled {A} step = ap step (same-layer (fold-Expression A (λ z. step z.form))) ∙ sym (fold-roll-Expression A (λ z. step z.form) x)
 
   rolled-reading : form_read same_reading (mapped_form (λ (e : (e : Expression) × Lawful e). read_expression e.0) y.form) ≡ read_expression (roll-Expression x)
@@ -173,8 +202,12 @@ module _ (x : Expression-F Expression) (y : Expression-F ((e : Expression) × La
   rolled-law : Lawful (roll-Expression x)
   rolled-law =
       subst (λ reading. ReadLaw reading (expression_clear (roll-Expression x)) (expression_built (roll-Expression x))) rolled-reading
-      (subst (λ clear. ReadLaw (form_read same_reading (mapped_form (λ (e : (e : Expression) × Lawful e). read_expression e.0) y.form)) clear (expression_built (roll-Expression x))) (rolled (form_clear same_clear))
-      (subst (λ built. ReadLaw (form_read same_reading (mapped_form (λ (e : (e : Expression) × Lawful e). read_expression e.0) y.form)) (form_clear same_clear (mapped_form (λ (e : (e : Expression) × Lawful e). expression_clear e.0) y.form)) built) (rolled (form_built same_built))
+      (subst (λ clear. ReadLaw (form_read same_reading (mapped_form (λ (e : (e : Expression) × Lawful e). read_expression e.0) y.form)) clear
+      (expression_built (roll-Expression x)))
+      (rolled (form_clear same_clear))
+      (subst (λ built. ReadLaw (form_read same_reading (mapped_form (λ (e : (e : Expression) × Lawful e). read_expression e.0) y.form))
+      (form_clear same_clear (mapped_form (λ (e : (e : Expression) × Lawful e). expression_clear e.0) y.form)) built)
+      (rolled (form_built same_built))
       (form-law (λ (e : (e : Expression) × Lawful e). read_expression e.0) (λ e. expression_clear e.0) (λ e. expression_built e.0) (λ e. e.1) y.form)))
 
 pub expression-law : (e : Expression) → Lawful e

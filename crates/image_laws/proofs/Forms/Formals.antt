@@ -41,14 +41,16 @@ module _ (k : Known) (xs : List (Argument Expression)) (w : Sounds k xs) where
   some-argument (Some e) s = refl
 
   module _ (whole : List FormalPart) where
-    fits : (f : FormalPart) (number : ℕ) → Only whole number f.name → is_given whole (actuals_of k xs) f ≡ true → faults_in (actual_if k f (actual_from number f.name 0 (actuals_of k xs))) ≡ [] → Fits number f
+    fits : (f : FormalPart) (number : ℕ) → Only whole number f.name → is_given whole (actuals_of k xs) f ≡ true
+        → faults_in (actual_if k f (actual_from number f.name 0 (actuals_of k xs))) ≡ [] → Fits number f
     fits f number only g n = record {
       there = λ o. some-argument (argument_from number f.name 0 xs)
           (sym (ap is_some (found-from k number f.name 0 xs)) ∙ given-found whole number f.name only (actuals_of k xs) 0 (or-second _ _ g o));
       wanted = λ e q. sym (ap (λ r. faults_in (actual_if k f r)) (found-from k number f.name 0 xs ∙ ap (option_map (read_of k)) q)) ∙ n;
     }
 
-    each-fits : (fs : List FormalPart) (number : ℕ) → Spread whole number fs → list_all (is_given whole (actuals_of k xs)) fs ≡ true → faults_in (actuals_fitted k number fs (actuals_of k xs)) ≡ [] → AllFit number fs
+    each-fits : (fs : List FormalPart) (number : ℕ) → Spread whole number fs → list_all (is_given whole (actuals_of k xs)) fs ≡ true
+        → faults_in (actuals_fitted k number fs (actuals_of k xs)) ≡ [] → AllFit number fs
     unfolding actuals_fitted
     each-fits [] number s g n = tt
     each-fits (f ∷ fs) number s g n =
@@ -56,7 +58,8 @@ module _ (k : Known) (xs : List (Argument Expression)) (w : Sounds k xs) where
         let p = none-of _ _ n in
         (fits f number s.0 given.0 p.0, each-fits fs (suc number) s.1 given.1 p.1)
 
-  pub all-fit : (place : Place) (whole : List FormalPart) → names_clear (map (λ (f : FormalPart). f.name) whole) ≡ true → faults_in (actuals_judged k place whole (actuals_of k xs)) ≡ [] → AllFit 0 whole
+  pub all-fit : (place : Place) (whole : List FormalPart) → names_clear (map (λ (f : FormalPart). f.name) whole) ≡ true
+      → faults_in (actuals_judged k place whole (actuals_of k xs)) ≡ [] → AllFit 0 whole
   unfolding actuals_judged actuals_numbered
   all-fit place whole c n =
       let p = none-of _ _ n in

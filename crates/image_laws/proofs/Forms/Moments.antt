@@ -1,5 +1,6 @@
 -- The moment of a Set_Handler that legality reads is that of its image.
-use Rattle.std.proofs.Common.{◌≡◌, ℕ, suc, Bool, true, false, cond, not, ◌&&◌, ◌||◌, List, [], ◌∷◌, Option, Some, None, option_map, is_some, refl, sym, ap, ◌∙◌, eqb, eqb-true, arith}
+use Rattle.std.proofs.Common.{◌≡◌, ℕ, suc, Bool, true, false, cond, not, ◌&&◌, ◌||◌, List, [], ◌∷◌, Option}
+use Rattle.std.proofs.Common.{Some, None, option_map, is_some, refl, sym, ap, ◌∙◌, eqb, eqb-true, arith}
 use Rattle.std.specs.Prelude.{codes, bytes_eq, length, ltb}
 use Rattle.std.proofs.lemmas.Bool.{and_parts, false≢true}
 use Rattle.std.proofs.lemmas.Slice.Eq.{bytes_eq-Decides}
@@ -47,11 +48,13 @@ module _ (k : Known) (whole : List FormalPart) (foreign : names_formal whole (co
   unfolding is_for_a_formal
   not-named before i f = other-name whole (codes "at_time") i.text foreign (and_parts _ _ f).0
 
-  not-late : (n : ℕ) (before : List ActualPart) (formal : Option Identifier) → is_for_a_formal whole before (option_map (λ (i : Identifier). i.text) formal) ≡ true → is_for 1 (codes "at_time") (suc (suc n)) formal ≡ false
+  not-late : (n : ℕ) (before : List ActualPart) (formal : Option Identifier)
+      → is_for_a_formal whole before (option_map (λ (i : Identifier). i.text) formal) ≡ true → is_for 1 (codes "at_time") (suc (suc n)) formal ≡ false
   not-late n before None f = late-place n
   not-late n before (Some i) f = not-named before i f
 
-  none-late : (before : List ActualPart) (n : ℕ) (xs : List (Argument Expression)) → faults_in (stray_actuals whole before (suc (suc n)) (actuals_of k xs)) ≡ [] → at_time xs (suc (suc n)) ≡ None
+  none-late : (before : List ActualPart) (n : ℕ) (xs : List (Argument Expression)) → faults_in (stray_actuals whole before (suc (suc n)) (actuals_of k xs)) ≡ []
+      → at_time xs (suc (suc n)) ≡ None
   unfolding stray_actuals argument_from arguments_read
   none-late before n [] e = refl
   none-late before n (a ∷ rest) e =
@@ -85,18 +88,21 @@ module _ (k : Known) (whole : List FormalPart) (foreign : names_formal whole (co
       from-none _ _ (ap (λ t. cond t (Some a.value) (cond (bytes_eq j.text (codes "at_time")) (Some b.value) (at_time rest 2))) (not-named [] i f)
       ∙ (ap (λ t. cond t (Some b.value) (at_time rest 2)) (not-named (before ∷ []) j g) ∙ e))
 
-  moment-same : (xs : List (Argument Expression)) → faults_in (stray_actuals whole (actuals_of k xs) 0 (actuals_of k xs)) ≡ [] → Same (at_time xs 0) (in_time xs 0)
+  moment-same : (xs : List (Argument Expression)) → faults_in (stray_actuals whole (actuals_of k xs) 0 (actuals_of k xs)) ≡ []
+      → Same (at_time xs 0) (in_time xs 0)
   unfolding stray_actuals argument_from arguments_read
   moment-same [] e = refl
   moment-same (a ∷ []) e = alone a a.formal (unless-none _ _ _ (none-of _ _ e).0)
   moment-same (a ∷ b ∷ rest) e =
       let p = none-of _ _ e in
       let q = none-of _ _ p.1 in
-      first-two a b rest (argument_part read_expression a (read_expression a.value k).0) a.formal b.formal refl (unless-none _ _ _ p.0) (unless-none _ _ _ q.0) (none-late (actuals_of k (a ∷ b ∷ rest)) 0 rest q.1)
+      first-two a b rest (argument_part read_expression a (read_expression a.value k).0) a.formal b.formal refl (unless-none _ _ _ p.0) (unless-none _ _ _ q.0)
+      (none-late (actuals_of k (a ∷ b ∷ rest)) 0 rest q.1)
 
   -- ---- the moment is built
 
-  pub span-built : (xs : List (Argument Expression)) → faults_in (stray_actuals whole (actuals_of k xs) 0 (actuals_of k xs)) ≡ [] → value_there (in_time xs 0) k.names ≡ true → value_there (moment_of xs) k.names ≡ true
+  pub span-built : (xs : List (Argument Expression)) → faults_in (stray_actuals whole (actuals_of k xs) 0 (actuals_of k xs)) ≡ []
+      → value_there (in_time xs 0) k.names ≡ true → value_there (moment_of xs) k.names ≡ true
   unfolding moment_of
   span-built xs e v = ap (λ x. value_there x k.names) (moment-same xs e) ∙ v
 

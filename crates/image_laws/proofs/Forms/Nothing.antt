@@ -12,7 +12,8 @@ unfolding faults_in
 none-of [] b e = (refl, e)
 none-of (f ∷ a) b e = go (fault_in f) refl e (none-of a b)
   where
-    go : (xs : List Fault) → fault_in f ≡ xs → (xs ++ flat_map fault_in (a ++ b)) ≡ [] → (flat_map fault_in (a ++ b) ≡ [] → (flat_map fault_in a ≡ []) × (flat_map fault_in b ≡ []))
+    go : (xs : List Fault) → fault_in f ≡ xs → (xs ++ flat_map fault_in (a ++ b)) ≡ []
+        → (flat_map fault_in (a ++ b) ≡ [] → (flat_map fault_in a ≡ []) × (flat_map fault_in b ≡ []))
         → ((fault_in f ++ flat_map fault_in a) ≡ []) × (flat_map fault_in b ≡ [])
     go [] q r rest = let h = rest r in (ap (λ ys. ys ++ flat_map fault_in a) q ∙ h.0, h.1)
     go (x ∷ xs) q r rest = absurd cc

@@ -38,7 +38,8 @@ pub well-operand : {r : Read} {is_built : Bool} → ReadWell r is_built → call
 well-operand w e = record { typed = w.typed; built = λ v. w.built v e }
 
 module _ {E : Type 0} (reading : E → Reading) (clear : E → Clear) (built : E → Built) (law : (e : E) → ReadLaw (reading e) (clear e) (built e)) where
-  pub operand-well : (e : E) (k : Known) → faults_in (operand_read same_reading (reading e) k).1 ≡ [] → clear e k ≡ true → OperandWell (operand_read same_reading (reading e) k).0 (built e k.names)
+  pub operand-well : (e : E) (k : Known) → faults_in (operand_read same_reading (reading e) k).1 ≡ [] → clear e k ≡ true
+      → OperandWell (operand_read same_reading (reading e) k).0 (built e k.names)
   unfolding operand_read
   operand-well e k f c =
       let p = none-of _ _ f in
@@ -49,7 +50,8 @@ module _ {E : Type 0} (reading : E → Reading) (clear : E → Clear) (built : E
   ArgumentsWell [] k = ⊤
   ArgumentsWell (a ∷ rest) k = OperandWell (reading a.value k).0 (built a.value k.names) × ArgumentsWell rest k
 
-  pub arguments-well : (xs : List (Argument E)) (k : Known) → faults_in (arguments_read same_reading (map (argument_of reading) xs) k).1 ≡ [] → arguments_clear same_clear (map (argument_of clear) xs) k ≡ true → ArgumentsWell xs k
+  pub arguments-well : (xs : List (Argument E)) (k : Known) → faults_in (arguments_read same_reading (map (argument_of reading) xs) k).1 ≡ []
+      → arguments_clear same_clear (map (argument_of clear) xs) k ≡ true → ArgumentsWell xs k
   unfolding arguments_read
   arguments-well [] k f c = tt
   arguments-well (a ∷ rest) k f c =

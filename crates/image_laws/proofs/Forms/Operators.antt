@@ -15,7 +15,9 @@ use Rattle.ada_image.specs.Layout.{is_thing}
 use Rattle.ada_legality.specs.declared.reading.Typed.{Typed}
 use Rattle.ada_legality.specs.declared.reading.Typed.TheVariants as typing
 use Rattle.ada_legality.specs.Faults.{faults_in}
-use Rattle.ada_legality.specs.Types.{type_number, same_type, is_boolean, is_scalar, is_ordered, is_text, sum_of, difference_of, product_of, quotient_of, remainder_of, boolean_if, result_of, result_of_one, operand_type, has_type, typed_if, operation_type, operation_type_of_one}
+use Rattle.ada_legality.specs.Types.{type_number, same_type, is_boolean, is_scalar, is_ordered, is_text, sum_of}
+use Rattle.ada_legality.specs.Types.{difference_of, product_of, quotient_of, remainder_of, boolean_if, result_of}
+use Rattle.ada_legality.specs.Types.{result_of_one, operand_type, has_type, typed_if, operation_type, operation_type_of_one}
 use Rattle.ada_legality.specs.Reading.{operation_judged, operation_of_one_judged, concatenation_judged, sum_judged, typed_sum}
 use Rattle.ada_regions.specs.Words.{and_then}
 use Rattle.image_laws.specs.Clear.{has_values}
@@ -185,11 +187,20 @@ pub operation-values : (operator : BinaryOperator) (a b : Typed) → is_some (op
 unfolding operation_type
 operation-values operator a b e = go (operand_type a) (operand_type b) refl refl e
   where
-    go : (x y : Option AdaType) → operand_type a ≡ x → operand_type b ≡ y → is_some (operation_type operator a b) ≡ true → (has_values a ≡ true) × (has_values b ≡ true)
+    go : (x y : Option AdaType) → operand_type a ≡ x → operand_type b ≡ y → is_some (operation_type operator a b) ≡ true
+        → (has_values a ≡ true) × (has_values b ≡ true)
     go None y p q h = absurd (false≢true (sym (ap (λ z. is_some (and_then z (λ x. and_then (operand_type b) (result_of operator x)))) p) ∙ h))
-    go (Some x) None p q h = absurd (false≢true (sym (ap (λ z. is_some (and_then z (λ x. and_then (operand_type b) (result_of operator x)))) p ∙ ap (λ z. is_some (and_then z (result_of operator x))) q) ∙ h))
+    go (Some x) None p q h =
+        absurd (false≢true
+        (sym
+        (ap (λ z. is_some (and_then z (λ x. and_then (operand_type b) (result_of operator x)))) p ∙ ap (λ z. is_some (and_then z (result_of operator x))) q)
+        ∙ h))
     go (Some x) (Some y) p q h =
-        let r = result-things operator x y (sym (ap (λ z. is_some (and_then z (λ x. and_then (operand_type b) (result_of operator x)))) p ∙ ap (λ z. is_some (and_then z (result_of operator x))) q) ∙ h) in
+        let r =
+        result-things operator x y
+        (sym
+        (ap (λ z. is_some (and_then z (λ x. and_then (operand_type b) (result_of operator x)))) p ∙ ap (λ z. is_some (and_then z (result_of operator x))) q)
+        ∙ h) in
         (values-of_type a x p r.0, values-of_type b y q r.1)
 
 pub operation-of_one : (operator : UnaryOperator) (a : Typed) → is_some (operation_type_of_one operator a) ≡ true → has_values a ≡ true
@@ -208,11 +219,13 @@ there-of true true (Some t) p q e = refl
 there-of true false o p q e = absurd (false≢true q)
 there-of false y o p q e = absurd (false≢true p)
 
-pub operation-there : (place : Place) (operator : BinaryOperator) (a b : Typed) → faults_in (operation_judged place operator a b) ≡ [] → has_type a ≡ true → has_type b ≡ true → is_some (operation_type operator a b) ≡ true
+pub operation-there : (place : Place) (operator : BinaryOperator) (a b : Typed) → faults_in (operation_judged place operator a b) ≡ [] → has_type a ≡ true
+    → has_type b ≡ true → is_some (operation_type operator a b) ≡ true
 unfolding operation_judged
 operation-there place operator a b e p q = there-of _ _ (operation_type operator a b) p q (if-none _ _ place e)
 
-pub one-there : (place : Place) (operator : UnaryOperator) (a : Typed) → faults_in (operation_of_one_judged place operator a) ≡ [] → has_type a ≡ true → is_some (operation_type_of_one operator a) ≡ true
+pub one-there : (place : Place) (operator : UnaryOperator) (a : Typed) → faults_in (operation_of_one_judged place operator a) ≡ [] → has_type a ≡ true
+    → is_some (operation_type_of_one operator a) ≡ true
 unfolding operation_of_one_judged
 one-there place operator a e p = there-of true _ (operation_type_of_one operator a) refl p (if-none _ _ place e)
 
@@ -237,7 +250,8 @@ join-read typing.OfText typing.OfText e = (refl, λ v. absurd (false≢true v))
 join-read typing.OfText _ e = absurd cc
 join-read _ _ e = absurd cc
 
-pub sum-read : (place : Place) (operator : AddingOperator) (a b : Typed) → faults_in (sum_judged place operator a b) ≡ [] → has_type a ≡ true → has_type b ≡ true → SumRead a b (typed_sum operator a b)
+pub sum-read : (place : Place) (operator : AddingOperator) (a b : Typed) → faults_in (sum_judged place operator a b) ≡ [] → has_type a ≡ true
+    → has_type b ≡ true → SumRead a b (typed_sum operator a b)
 unfolding sum_judged typed_sum concatenation_judged
 sum-read place adding.Plus a b e p q = let h = operation-there place binary.Plus a b e p q in (typed-there _ h, λ v. operation-values binary.Plus a b h)
 sum-read place adding.Minus a b e p q = let h = operation-there place binary.Minus a b e p q in (typed-there _ h, λ v. operation-values binary.Minus a b h)

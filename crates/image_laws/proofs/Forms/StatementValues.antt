@@ -75,7 +75,8 @@ bounds-thing low high = go (type_of_low low) (type_of_low high) (low-thing low) 
     go None (Some b) p q = q
     go None None p q = refl
 
-bound-built : (k : Known) (e : Expression) (t : AdaType) → expression_clear e k ≡ true → is_thing t ≡ false → faults_in (read_expression e k).1 ≡ [] → faults_in (expected asking.ForValue (Some t) (read_expression e k).0) ≡ [] → expression_built e k.names ≡ true
+bound-built : (k : Known) (e : Expression) (t : AdaType) → expression_clear e k ≡ true → is_thing t ≡ false → faults_in (read_expression e k).1 ≡ []
+    → faults_in (expected asking.ForValue (Some t) (read_expression e k).0) ≡ [] → expression_built e k.names ≡ true
 unfolding expected
 bound-built k e t c h f g =
     let q = none-of _ _ g in

@@ -1,5 +1,6 @@
 -- What Put_Line writes is built, where no rule is broken: a text, an Image of a value, or these joined.
-use Rattle.std.proofs.Common.{◌≡◌, ℕ, Bool, true, false, cond, not, ◌&&◌, ◌||◌, List, [], ◌∷◌, ◌++◌, map, Option, Some, None, option_map, is_some, refl, sym, ap, ◌∙◌}
+use Rattle.std.proofs.Common.{◌≡◌, ℕ, Bool, true, false, cond, not, ◌&&◌, ◌||◌, List, [], ◌∷◌, ◌++◌}
+use Rattle.std.proofs.Common.{map, Option, Some, None, option_map, is_some, refl, sym, ap, ◌∙◌}
 use Rattle.std.specs.Prelude.{unwrap_or}
 use Rattle.std.proofs.lemmas.Bool.{and_from, and_parts, false≢true}
 use Rattle.ada_tree.specs.declared.names.Name.{Name}
@@ -38,8 +39,13 @@ use Rattle.ada_legality.specs.Attributes.{has_images, typed_attribute, typed_att
 use Rattle.ada_legality.specs.Calls.{given_before}
 use Rattle.ada_legality.specs.Faults.{faults_in}
 use Rattle.ada_legality.specs.Places.{place_of}
-use Rattle.ada_legality.specs.Reading.{Reading, actuals_numbered, both_lengths, bracketed_read, compared_read, first_relation, first_term, highest_read, image_length, length_if_joined, number_read, signed_read, text_read, type_of_prefix, with_factor, with_relation, with_term}
-use Rattle.ada_legality.specs.ReadExpressions.{addends_read, adding_expression, arguments_read, attribute_judged, attribute_read, bracketed_expression, factors_read, form_read, highest_expression, image_judged, logical_expression, multiplying_expression, name_read, named_expression, operand_read, operands_read, read_expression, relational_expression, same_reading, signed_expression}
+use Rattle.ada_legality.specs.Reading.{Reading, actuals_numbered, both_lengths, bracketed_read, compared_read}
+use Rattle.ada_legality.specs.Reading.{first_relation, first_term, highest_read, image_length, length_if_joined, number_read}
+use Rattle.ada_legality.specs.Reading.{signed_read, text_read, type_of_prefix, with_factor, with_relation, with_term}
+use Rattle.ada_legality.specs.ReadExpressions.{addends_read, adding_expression, arguments_read, attribute_judged, attribute_read}
+use Rattle.ada_legality.specs.ReadExpressions.{bracketed_expression, factors_read, form_read, highest_expression, image_judged}
+use Rattle.ada_legality.specs.ReadExpressions.{logical_expression, multiplying_expression, name_read, named_expression, operand_read}
+use Rattle.ada_legality.specs.ReadExpressions.{operands_read, read_expression, relational_expression, same_reading, signed_expression}
 use Rattle.ada_legality.specs.Types.{discrete_if, has_type, is_discrete, is_of_time}
 use Rattle.image_laws.proofs.Images.Expressions.{addend_of, argument_of, mapped_form}
 use Rattle.image_laws.specs.Clear.{addends_clear, arguments_clear, attribute_clear, clear_layer, expression_clear, form_clear, same_clear}
@@ -54,7 +60,8 @@ use Rattle.image_laws.proofs.Forms.Variables.{form-reading}
 
 module _ {X : Type 0} (part : Read → X) where
   operands-keep : ((operator : LogicalOperator) (l r : Read) → part (with_relation operator l r) ≡ part l)
-      → (operator : LogicalOperator) (os : List (Operand Reading)) (left : Read) (k : Known) → part (operands_read same_reading operator left os k).0 ≡ part left
+      → (operator : LogicalOperator) (os : List (Operand Reading)) (left : Read) (k : Known)
+      → part (operands_read same_reading operator left os k).0 ≡ part left
   unfolding operands_read
   operands-keep same operator [] left k = refl
   operands-keep same operator (o ∷ os) left k = operands-keep same operator os _ k ∙ same operator left _
@@ -92,7 +99,8 @@ has-images false t = absurd (false≢true t)
 abbrev Discrete : Option AdaType → Type 0
 Discrete o = (t : AdaType) × ((o ≡ Some t) × (is_discrete t ≡ true))
 
-discrete-there : (s : Option Subtype) → unwrap_or (option_map (λ (x : Subtype). is_discrete x.of_type) s) false ≡ true → Discrete (and_then s (λ (x : Subtype). discrete_if x.of_type))
+discrete-there : (s : Option Subtype) → unwrap_or (option_map (λ (x : Subtype). is_discrete x.of_type) s) false ≡ true
+    → Discrete (and_then s (λ (x : Subtype). discrete_if x.of_type))
 discrete-there None d = absurd (false≢true d)
 discrete-there (Some s) d = (s.of_type, (ap (λ b. cond b (Some s.of_type) None) d, d))
 
@@ -107,12 +115,18 @@ module _ (k : Known) (name : Name) where
   unfolding typed_attribute_of type_of_prefix
   prefix-there has t =
       discrete-there (and_then (denoted_by k.names name) (mark_denoted k.names))
-      (images-of (denoted_by k.names name) (sym (ap (λ b. has_type (cond b typing.WithoutType (unwrap_or (option_map (λ x. typed_attribute k name x attribute.Image) (denoted_by k.names name)) typing.WithoutType))) (no-arguments has)) ∙ t))
+      (images-of (denoted_by k.names name)
+      (sym (ap (λ b. has_type
+      (cond b typing.WithoutType (unwrap_or (option_map (λ x. typed_attribute k name x attribute.Image) (denoted_by k.names name)) typing.WithoutType)))
+      (no-arguments has))
+      ∙ t))
 
   abbrev actuals : List (Argument Expression) → List ActualPart
   actuals = actuals_of read_expression expression_built k
 
-  image-argument : (t : AdaType) → is_discrete t ≡ true → (xs : List (Argument Expression)) → faults_in (arguments_read same_reading (map (argument_of read_expression) xs) k).1 ≡ [] → arguments_clear same_clear (map (argument_of expression_clear) xs) k ≡ true
+  image-argument : (t : AdaType) → is_discrete t ≡ true → (xs : List (Argument Expression))
+      → faults_in (arguments_read same_reading (map (argument_of read_expression) xs) k).1 ≡ []
+      → arguments_clear same_clear (map (argument_of expression_clear) xs) k ≡ true
       → faults_in (image_judged k name (actuals xs) (Some t)) ≡ [] → value_there (first_argument xs) k.names ≡ true
   unfolding image_judged actuals_numbered given_before arguments_read
   image-argument t d [] f c g =
@@ -124,7 +138,8 @@ module _ (k : Known) (name : Name) where
       w.built (fitted-values asking.ForValue (read_expression a.value k).0 t (ordered-thing t (ap (λ b. b || is_of_time t) d)) (none-of _ _ g).1 w.typed)
 
   by-attribute : (a : Attribute) (has : Bool) (xs : List (Argument Expression)) → attribute_clear k name a has ≡ true → is_some (image_length k name a) ≡ true
-      → faults_in (arguments_read same_reading (map (argument_of read_expression) xs) k).1 ≡ [] → arguments_clear same_clear (map (argument_of expression_clear) xs) k ≡ true
+      → faults_in (arguments_read same_reading (map (argument_of read_expression) xs) k).1 ≡ []
+      → arguments_clear same_clear (map (argument_of expression_clear) xs) k ≡ true
       → faults_in (attribute_judged k name a (actuals xs)) ≡ [] → value_there (first_argument xs) k.names ≡ true
   unfolding image_length attribute_judged
   by-attribute attribute.Image has xs c l f a g =
@@ -133,8 +148,12 @@ module _ (k : Known) (name : Name) where
   by-attribute _ has xs c l f a g = absurd (false≢true l)
 
 image-well : (name : Name) (a : Attribute) (xs : List (Argument Expression)) (k : Known)
-    → faults_in ((arguments_read same_reading (map (argument_of read_expression) xs) k).1 ++ attribute_judged k name a (arguments_read same_reading (map (argument_of read_expression) xs) k).0) ≡ []
-    → (attribute_clear k name a (not (is_empty (map (argument_of expression_clear) xs))) && arguments_clear same_clear (map (argument_of expression_clear) xs) k) ≡ true
+    → faults_in ((arguments_read same_reading (map (argument_of read_expression) xs) k).1
+    ++ attribute_judged k name a (arguments_read same_reading (map (argument_of read_expression) xs) k).0)
+    ≡ []
+    → (attribute_clear k name a (not (is_empty (map (argument_of expression_clear) xs)))
+    && arguments_clear same_clear (map (argument_of expression_clear) xs) k)
+    ≡ true
     → is_some (image_length k name a) ≡ true → value_there (first_argument xs) k.names ≡ true
 image-well name a xs k f c l =
     let parts = and_parts _ _ c in
@@ -143,9 +162,12 @@ image-well name a xs k f c l =
 
 -- ---- pieces
 
-piece-form : (x : ExpressionForm Expression) (k : Known) → faults_in (form_read same_reading (mapped_form read_expression x) k).1 ≡ [] → form_clear same_clear (mapped_form expression_clear x) k ≡ true
+piece-form : (x : ExpressionForm Expression) (k : Known) → faults_in (form_read same_reading (mapped_form read_expression x) k).1 ≡ []
+    → form_clear same_clear (mapped_form expression_clear x) k ≡ true
     → is_some (form_read same_reading (mapped_form read_expression x) k).0.piece ≡ true → piece_form_built x k.names ≡ true
-unfolding logical_expression relational_expression adding_expression multiplying_expression signed_expression highest_expression bracketed_expression first_relation with_relation with_factor with_term compared_read first_term signed_read highest_read bracketed_read number_read text_read named_expression name_read attribute_read
+unfolding logical_expression relational_expression adding_expression multiplying_expression signed_expression highest_expression bracketed_expression
+    first_relation with_relation with_factor with_term compared_read first_term signed_read highest_read bracketed_read number_read text_read named_expression
+    name_read attribute_read
 piece-form (form.Logical operator first others) k f c s = absurd (some-nothing s (operands-keep (λ r. r.piece) (λ o l r. refl) operator _ _ k))
 piece-form (form.Relational left place operator right) k f c s = absurd (false≢true s)
 piece-form (form.Adding first others) k f c s = absurd (some-nothing s (addends-keep (λ r. r.piece) (λ o l r. refl) _ _ k))
@@ -160,14 +182,17 @@ piece-form (form.Bracketed place inner) k f c s = absurd (false≢true s)
 piece-form (form.Named name None arguments) k f c s = absurd (false≢true s)
 piece-form (form.Named name (Some a) arguments) k f c s = image-well name a.attribute arguments k f c s
 
-form-found : (e : Expression) (k : Known) → faults_in (read_expression e k).1 ≡ [] → faults_in (form_read same_reading (mapped_form read_expression (out-Expression e).form) k).1 ≡ []
+form-found : (e : Expression) (k : Known) → faults_in (read_expression e k).1 ≡ []
+    → faults_in (form_read same_reading (mapped_form read_expression (out-Expression e).form) k).1 ≡ []
 form-found e k f = sym (ap (λ (r : Reading). faults_in (r k).1) (form-reading e)) ∙ f
 
 form-clear : (e : Expression) (k : Known) → expression_clear e k ≡ true → form_clear same_clear (mapped_form expression_clear (out-Expression e).form) k ≡ true
 form-clear e k c = sym (ap (λ (t : Known → Bool). t k) (fold_out-Expression (Known → Bool) clear_layer e)) ∙ c
 
-piece-well : (e : Expression) (k : Known) → faults_in (read_expression e k).1 ≡ [] → expression_clear e k ≡ true → is_some (read_expression e k).0.piece ≡ true → piece_built e k.names ≡ true
-piece-well e k f c s = piece-form (out-Expression e).form k (form-found e k f) (form-clear e k c) (sym (ap (λ (r : Reading). is_some (r k).0.piece) (form-reading e)) ∙ s)
+piece-well : (e : Expression) (k : Known) → faults_in (read_expression e k).1 ≡ [] → expression_clear e k ≡ true → is_some (read_expression e k).0.piece ≡ true
+    → piece_built e k.names ≡ true
+piece-well e k f c s =
+    piece-form (out-Expression e).form k (form-found e k f) (form-clear e k c) (sym (ap (λ (r : Reading). is_some (r k).0.piece) (form-reading e)) ∙ s)
 
 -- ---- texts that are joined
 
@@ -182,8 +207,11 @@ joined-there adding.Plus b s = absurd (false≢true s)
 joined-there adding.Minus b s = absurd (false≢true s)
 joined-there adding.Concatenation b s = s
 
-addends-pieces : (xs : List (Addend Expression)) (left : Read) (k : Known) → faults_in (addends_read same_reading left (map (addend_of read_expression) xs) k).1 ≡ [] → addends_clear same_clear (map (addend_of expression_clear) xs) k ≡ true
-    → is_some (addends_read same_reading left (map (addend_of read_expression) xs) k).0.line ≡ true → (is_some left.line ≡ true) × (pieces_built xs k.names ≡ true)
+addends-pieces : (xs : List (Addend Expression)) (left : Read) (k : Known)
+    → faults_in (addends_read same_reading left (map (addend_of read_expression) xs) k).1 ≡ []
+    → addends_clear same_clear (map (addend_of expression_clear) xs) k ≡ true
+    → is_some (addends_read same_reading left (map (addend_of read_expression) xs) k).0.line ≡ true
+    → (is_some left.line ≡ true) × (pieces_built xs k.names ≡ true)
 unfolding addends_read operand_read with_term
 addends-pieces [] left k f c s = (s, refl)
 addends-pieces (a ∷ rest) left k f c s =
@@ -193,9 +221,12 @@ addends-pieces (a ∷ rest) left k f c s =
     let both = both-there left.line (length_if_joined a.operator (read_expression a.term k).0.piece) later.0 in
     (both.0, and_from _ _ (piece-well a.term k (none-of _ _ p.0).0 parts.0 (joined-there a.operator _ both.1)) later.1)
 
-text-form : (x : ExpressionForm Expression) (k : Known) → faults_in (form_read same_reading (mapped_form read_expression x) k).1 ≡ [] → form_clear same_clear (mapped_form expression_clear x) k ≡ true
+text-form : (x : ExpressionForm Expression) (k : Known) → faults_in (form_read same_reading (mapped_form read_expression x) k).1 ≡ []
+    → form_clear same_clear (mapped_form expression_clear x) k ≡ true
     → is_some (form_read same_reading (mapped_form read_expression x) k).0.line ≡ true → text_form_built x k.names ≡ true
-unfolding logical_expression relational_expression adding_expression operand_read multiplying_expression signed_expression highest_expression bracketed_expression first_relation with_relation with_factor compared_read first_term signed_read highest_read bracketed_read number_read text_read named_expression name_read attribute_read
+unfolding logical_expression relational_expression adding_expression operand_read multiplying_expression signed_expression highest_expression
+    bracketed_expression first_relation with_relation with_factor compared_read first_term signed_read highest_read bracketed_read number_read text_read
+    named_expression name_read attribute_read
 text-form (form.Logical operator first others) k f c s = absurd (some-nothing s (operands-keep (λ r. r.line) (λ o l r. refl) operator _ _ k))
 text-form (form.Relational left place operator right) k f c s = absurd (false≢true s)
 text-form (form.Adding first others) k f c s =
@@ -214,5 +245,7 @@ text-form (form.Bracketed place inner) k f c s = absurd (false≢true s)
 text-form (form.Named name None arguments) k f c s = absurd (false≢true s)
 text-form (form.Named name (Some a) arguments) k f c s = image-well name a.attribute arguments k f c s
 
-pub text-well : (e : Expression) (k : Known) → faults_in (read_expression e k).1 ≡ [] → expression_clear e k ≡ true → is_some (read_expression e k).0.line ≡ true → text_built (Some e) k.names ≡ true
-text-well e k f c s = text-form (out-Expression e).form k (form-found e k f) (form-clear e k c) (sym (ap (λ (r : Reading). is_some (r k).0.line) (form-reading e)) ∙ s)
+pub text-well : (e : Expression) (k : Known) → faults_in (read_expression e k).1 ≡ [] → expression_clear e k ≡ true
+    → is_some (read_expression e k).0.line ≡ true → text_built (Some e) k.names ≡ true
+text-well e k f c s =
+    text-form (out-Expression e).form k (form-found e k f) (form-clear e k c) (sym (ap (λ (r : Reading). is_some (r k).0.line) (form-reading e)) ∙ s)

@@ -32,7 +32,9 @@ use Rattle.image_laws.proofs.Images.Selects.{select-step}
 
 module _ {E : Type 0} (g : E → Sequence) (law : (e : E) → SequenceLaw (sequence_put (g e)) (λ p. sequence_reads p (g e)) (sequence_built (g e))) where
   abbrev StatementStep : Statement E → Type 0
-  StatementStep x = (next : Option StatementNo) (within : Within) → statement_built same_sequence_built (mapped_statement sequence_built (mapped_statement g x)) within.names ≡ true
+  StatementStep x =
+      (next : Option StatementNo) (within : Within)
+      → statement_built same_sequence_built (mapped_statement sequence_built (mapped_statement g x)) within.names ≡ true
       → Step (statement_put same_making within (mapped_statement sequence_put (mapped_statement g x)) next)
       (λ p y. Stood p next (λ s f. form_stands p same_sequence_reading within (mapped_statement (sequence_reads p) (mapped_statement g x)) s next f) y)
 
@@ -46,13 +48,18 @@ module _ {E : Type 0} (g : E → Sequence) (law : (e : E) → SequenceLaw (seque
   case-stands c next within b =
       let parts = and_parts _ _ b in
       step-then (alternatives_put same_making within (map (case_of sequence_put) (map (case_of g) (c.alternatives.first ∷ c.alternatives.others))) next)
-      (λ xs. expression_made c.selector within >>= (λ e. action_put (action.Case e xs) (signs_in within c.selector) next)) (alternatives-step g law (c.alternatives.first ∷ c.alternatives.others) next within parts.1)
-      (λ xs. step-then (expression_made c.selector within) (λ e. action_put (action.Case e xs) (signs_in within c.selector) next) (expression-step c.selector within parts.0)
+      (λ xs. expression_made c.selector within >>= (λ e. action_put (action.Case e xs) (signs_in within c.selector) next))
+      (alternatives-step g law (c.alternatives.first ∷ c.alternatives.others) next within parts.1)
+      (λ xs. step-then (expression_made c.selector within) (λ e. action_put (action.Case e xs) (signs_in within c.selector) next)
+      (expression-step c.selector within parts.0)
       (λ e. step-so (λ p y h k l. record {
         at = h.at;
         is = h.is;
         next = h.stands.next;
-        stands = ap (λ f. form_stands p same_sequence_reading within (mapped_statement (sequence_reads p) (mapped_statement g (statement.Case c))) h.at next f) h.stands.form ∙ and_from _ _ k l;
+        stands =
+            ap (λ f.
+            form_stands p same_sequence_reading within (mapped_statement (sequence_reads p) (mapped_statement g (statement.Case c))) h.at next f) h.stands.form
+            ∙ and_from _ _ k l;
       })
       (action-step (action.Case e xs) (signs_in within c.selector) next)))
 
@@ -64,7 +71,10 @@ module _ {E : Type 0} (g : E → Sequence) (law : (e : E) → SequenceLaw (seque
   statement-step : (x : Statement E) → StatementStep x
   unfolding statement_put
   statement-step (statement.Null place) next within b =
-      step-so (λ p y h. stood (λ f. form_stands p same_sequence_reading within (mapped_statement (sequence_reads p) (mapped_statement g (statement.Null place))) h.at next f) h refl) (action-step action.Null 0 next)
+      step-so (λ p y h. stood
+      (λ f.
+      form_stands p same_sequence_reading within (mapped_statement (sequence_reads p) (mapped_statement g (statement.Null place))) h.at next f) h refl)
+      (action-step action.Null 0 next)
   statement-step (statement.Assignment a) next within b = assignment-step a next within b
   statement-step (statement.Call c) next within b = call-statement-step c next within b
   statement-step (statement.Delay d) next within b = delay-step d next within b
@@ -91,27 +101,33 @@ module _ {E : Type 0} (g : E → Sequence) (law : (e : E) → SequenceLaw (seque
   -- a statement before those that read
   in-front : (x : Statement E) (xs : List (Statement E)) (later next : Option StatementNo) (within : Within) (p : Image) (y : Option StatementNo)
       → Stood p later (λ s f. form_stands p same_sequence_reading within (mapped_statement (sequence_reads p) (mapped_statement g x)) s later f) y
-      → statements_stand p same_sequence_reading within (read p xs) later next ≡ true → statements_stand p same_sequence_reading within (read p (x ∷ xs)) y next ≡ true
+      → statements_stand p same_sequence_reading within (read p xs) later next ≡ true
+      → statements_stand p same_sequence_reading within (read p (x ∷ xs)) y next ≡ true
   in-front x xs later next within p y h k =
       ap (λ z. statements_stand p same_sequence_reading within (read p (x ∷ xs)) z next) h.is
-      ∙ ap (λ n. form_stands p same_sequence_reading within (mapped_statement (sequence_reads p) (mapped_statement g x)) h.at n (form_of p h.at) && statements_stand p same_sequence_reading within (read p xs) n next) h.next
+      ∙ ap (λ n. form_stands p same_sequence_reading within (mapped_statement (sequence_reads p) (mapped_statement g x)) h.at n (form_of p h.at)
+      && statements_stand p same_sequence_reading within (read p xs) n next) h.next
       ∙ and_from _ _ h.stands k
 
-  statements-step : (xs : List (Statement E)) (next : Option StatementNo) (within : Within) → statements_built same_sequence_built (map (mapped_statement sequence_built) (map (mapped_statement g) xs)) within.names ≡ true
+  statements-step : (xs : List (Statement E)) (next : Option StatementNo) (within : Within)
+      → statements_built same_sequence_built (map (mapped_statement sequence_built) (map (mapped_statement g) xs)) within.names ≡ true
       → Step (statements_put same_making within (made xs) next) (λ p y. statements_stand p same_sequence_reading within (read p xs) y next ≡ true)
   unfolding statements_put
   statements-step [] next within b = step-pure next _ (λ p. same-next next)
   statements-step (x ∷ xs) next within b =
       let parts = and_parts _ _ b in
-      step-then (statements_put same_making within (made xs) next) (λ later. statement_put same_making within (mapped_statement sequence_put (mapped_statement g x)) later) (statements-step xs next within parts.1)
+      step-then (statements_put same_making within (made xs) next)
+      (λ later. statement_put same_making within (mapped_statement sequence_put (mapped_statement g x)) later) (statements-step xs next within parts.1)
       (λ later. step-so (λ p y h k. in-front x xs later next within p y h k) (statement-step x later within parts.0))
 
   -- one statement at least: there is a first action
   pub all-step : (x : Statement E) (xs : List (Statement E)) (next : Option StatementNo) (within : Within)
       → statements_built same_sequence_built (map (mapped_statement sequence_built) (map (mapped_statement g) (x ∷ xs))) within.names ≡ true
-      → Step (statements_put same_making within (made (x ∷ xs)) next) (λ p y. ((s : StatementNo) × (y ≡ Some s)) × (statements_stand p same_sequence_reading within (read p (x ∷ xs)) y next ≡ true))
+      → Step (statements_put same_making within (made (x ∷ xs)) next)
+      (λ p y. ((s : StatementNo) × (y ≡ Some s)) × (statements_stand p same_sequence_reading within (read p (x ∷ xs)) y next ≡ true))
   unfolding statements_put
   all-step x xs next within b =
       let parts = and_parts _ _ b in
-      step-then (statements_put same_making within (made xs) next) (λ later. statement_put same_making within (mapped_statement sequence_put (mapped_statement g x)) later) (statements-step xs next within parts.1)
+      step-then (statements_put same_making within (made xs) next)
+      (λ later. statement_put same_making within (mapped_statement sequence_put (mapped_statement g x)) later) (statements-step xs next within parts.1)
       (λ later. step-so (λ p y h k. ((h.at, h.is), in-front x xs later next within p y h k)) (statement-step x later within parts.0))

@@ -1,5 +1,6 @@
 -- Each expression that is built stands where it is made, by induction over its forms.
-use Rattle.std.proofs.Common.{◌≡◌, ℕ, ℤ, pos, negsuc, neg_ℤ, suc, Bool, true, false, cond, ◌&&◌, List, [], ◌∷◌, map, Option, Some, None, option_map, is_some, refl, sym, ap, subst, ◌∙◌, arith}
+use Rattle.std.proofs.Common.{◌≡◌, ℕ, ℤ, pos, negsuc, neg_ℤ, suc, Bool, true, false, cond, ◌&&◌, List, [], ◌∷◌}
+use Rattle.std.proofs.Common.{map, Option, Some, None, option_map, is_some, refl, sym, ap, subst, ◌∙◌, arith}
 use Rattle.std.specs.Prelude.{unwrap_or, int_le}
 use Rattle.std.proofs.lemmas.Bool.{and_from, and_parts, false≢true, le-leb}
 use Rattle.ada_tree.specs.declared.names.Name.{Name}
@@ -42,9 +43,19 @@ use Rattle.ann_base.specs.Lists.{is_empty}
 use Rattle.ada_image.specs.declared.making.Within.{Within}
 use Rattle.ada_image.specs.Making.{value_put, first_given}
 use Rattle.ada_image.specs.Layout.{is_thing, subtype_is}
-use Rattle.ada_image.specs.ImageOfExpressions.{expression_image, expression_made, ExpressionImage, logical_operator, relational_operator, adding_operator, multiplying_operator, highest_operator, no_value, no_declaration_no, object_named, thing_in, index_made, variable_made, variable_put, object_made, entity_made, argument_from, arguments_from, actuals_for, first_argument, images_for, image_or_none, optional_made, span_made, same_ticks_made, of_task_made, port_made, name_in, of_thing_made, function_made, item_made, index_in, denoted_made, named_made, signed_made, binary_put, operands_made, addends_made, factors_made, logical_made, relational_made, adding_made, multiplying_made, form_image, same_image}
-use Rattle.ada_image.specs.ReadExpressions.{expression_reading, expression_stands, same_decl, ExpressionReading, Standing, is_value, is_binary, is_variable_at, is_thing_at, entity_stands, actual_stands, optional_stands, actual_thing, function_stands, first_of_actuals, item_stands, index_of, denoted_stands, named_stands, operands_stand, addends_stand, factors_stand, signed_stands, form_reading, same_reading, at_number}
-use Rattle.ada_image.specs.BuiltExpressions.{expression_built, Built, is_there, is_built_if_there, entity_built, operation_built, item_built, denoted_built, named_built, operands_built, addends_built, factors_built, form_built, same_built}
+use Rattle.ada_image.specs.ImageOfExpressions.{expression_image, expression_made, ExpressionImage, logical_operator, relational_operator}
+use Rattle.ada_image.specs.ImageOfExpressions.{adding_operator, multiplying_operator, highest_operator, no_value, no_declaration_no, object_named}
+use Rattle.ada_image.specs.ImageOfExpressions.{thing_in, index_made, variable_made, variable_put, object_made, entity_made, argument_from}
+use Rattle.ada_image.specs.ImageOfExpressions.{arguments_from, actuals_for, first_argument, images_for, image_or_none, optional_made, span_made}
+use Rattle.ada_image.specs.ImageOfExpressions.{same_ticks_made, of_task_made, port_made, name_in, of_thing_made, function_made, item_made}
+use Rattle.ada_image.specs.ImageOfExpressions.{index_in, denoted_made, named_made, signed_made, binary_put, operands_made, addends_made}
+use Rattle.ada_image.specs.ImageOfExpressions.{factors_made, logical_made, relational_made, adding_made, multiplying_made, form_image, same_image}
+use Rattle.ada_image.specs.ReadExpressions.{expression_reading, expression_stands, same_decl, ExpressionReading, Standing, is_value, is_binary}
+use Rattle.ada_image.specs.ReadExpressions.{is_variable_at, is_thing_at, entity_stands, actual_stands, optional_stands, actual_thing}
+use Rattle.ada_image.specs.ReadExpressions.{function_stands, first_of_actuals, item_stands, index_of, denoted_stands, named_stands}
+use Rattle.ada_image.specs.ReadExpressions.{operands_stand, addends_stand, factors_stand, signed_stands, form_reading, same_reading, at_number}
+use Rattle.ada_image.specs.BuiltExpressions.{expression_built, Built, is_there, is_built_if_there, entity_built, operation_built, item_built}
+use Rattle.ada_image.specs.BuiltExpressions.{denoted_built, named_built, operands_built, addends_built, factors_built, form_built, same_built}
 use Rattle.image_laws.proofs.Images.Steps.{Step, step-pure, step-so, step-then, IsAt, value-step}
 use Rattle.image_laws.proofs.Images.Values.{same-number, same-object, known-step, unary-step, binary-step, thing-step, attribute-step}
 
@@ -78,12 +89,14 @@ module _ {A B : Type 0} (f : A → B) where
   found true x t s e = refl
   found false x t s e = e
 
-  argument-mapped : (number : ℕ) (name : List ℕ) (at : ℕ) (xs : List (Argument A)) → argument_from number name at (map (argument_of f) xs) ≡ option_map f (argument_from number name at xs)
+  argument-mapped : (number : ℕ) (name : List ℕ) (at : ℕ) (xs : List (Argument A))
+      → argument_from number name at (map (argument_of f) xs) ≡ option_map f (argument_from number name at xs)
   unfolding argument_from
   argument-mapped number name at [] = refl
   argument-mapped number name at (a ∷ rest) = found _ a.value _ _ (argument-mapped number name (suc at) rest)
 
-  arguments-mapped : (number : ℕ) (names : List (List ℕ)) (xs : List (Argument A)) → arguments_from number names (map (argument_of f) xs) ≡ map (option_map f) (arguments_from number names xs)
+  arguments-mapped : (number : ℕ) (names : List (List ℕ)) (xs : List (Argument A))
+      → arguments_from number names (map (argument_of f) xs) ≡ map (option_map f) (arguments_from number names xs)
   unfolding arguments_from
   arguments-mapped number [] xs = refl
   arguments-mapped number (name ∷ names) xs = rw (argument-mapped number name 0 xs, arguments-mapped (suc number) names xs) refl
@@ -126,62 +139,86 @@ module _ (literal : List ℕ) where
 
 -- ---- one layer, whose expressions obey the law
 
-module _ {E : Type 0} (image : E → ExpressionImage) (reading : Image → E → ExpressionReading) (built : E → Built) (law : (e : E) → ExpressionLaw (image e) (λ p. reading p e) (built e)) where
+module _ {E : Type 0} (image : E → ExpressionImage) (reading : Image → E → ExpressionReading) (built : E → Built)
+    (law : (e : E) → ExpressionLaw (image e) (λ p. reading p e) (built e)) where
   -- ---- operators of one level
 
-  operands-step : (operator : BinaryOperator) (os : List (Operand E)) (left : Image → Standing) (within : Within) (n : ExprNo) → operands_built same_built (map (operand_of built) os) within.names ≡ true
-      → Step (operands_made same_image operator n (map (operand_of image) os) within) (λ p e. left p within n ≡ true → operands_stand p same_reading operator (left p) (map (operand_of (reading p)) os) within e ≡ true)
+  operands-step : (operator : BinaryOperator) (os : List (Operand E)) (left : Image → Standing) (within : Within) (n : ExprNo)
+      → operands_built same_built (map (operand_of built) os) within.names ≡ true
+      → Step (operands_made same_image operator n (map (operand_of image) os) within)
+      (λ p e. left p within n ≡ true → operands_stand p same_reading operator (left p) (map (operand_of (reading p)) os) within e ≡ true)
   unfolding operands_made
   operands-step operator [] left within n b = step-pure n _ (λ p h. h)
   operands-step operator (o ∷ os) left within n b =
       let parts = and_parts _ _ b in
       step-then (binary_put operator n ((image o.relation).made within)) (λ x. operands_made same_image operator x (map (operand_of image) os) within)
       (binary-step operator n _ (λ p. left p within) (λ p. (reading p o.relation).stands within) ((law o.relation).stands within parts.0))
-      (λ x. step-so (λ p e h r l. h (r l)) (operands-step operator os (λ p w y. is_binary p operator (left p w) ((reading p o.relation).stands w) (at_number p y)) within x parts.1))
+      (λ x. step-so (λ p e h r l. h (r l))
+      (operands-step operator os (λ p w y. is_binary p operator (left p w) ((reading p o.relation).stands w) (at_number p y)) within x parts.1))
 
-  addends-step : (xs : List (Addend E)) (left : Image → Standing) (within : Within) (n : ExprNo) → addends_built same_built (map (addend_of built) xs) within.names ≡ true
-      → Step (addends_made same_image n (map (addend_of image) xs) within) (λ p e. left p within n ≡ true → addends_stand p same_reading (left p) (map (addend_of (reading p)) xs) within e ≡ true)
+  addends-step : (xs : List (Addend E)) (left : Image → Standing) (within : Within) (n : ExprNo)
+      → addends_built same_built (map (addend_of built) xs) within.names ≡ true
+      → Step (addends_made same_image n (map (addend_of image) xs) within)
+      (λ p e. left p within n ≡ true → addends_stand p same_reading (left p) (map (addend_of (reading p)) xs) within e ≡ true)
   unfolding addends_made
   addends-step [] left within n b = step-pure n _ (λ p h. h)
   addends-step (a ∷ rest) left within n b =
       let parts = and_parts _ _ b in
       step-then (binary_put (adding_operator a.operator) n ((image a.term).made within)) (λ x. addends_made same_image x (map (addend_of image) rest) within)
       (binary-step (adding_operator a.operator) n _ (λ p. left p within) (λ p. (reading p a.term).stands within) ((law a.term).stands within parts.0))
-      (λ x. step-so (λ p e h r l. h (r l)) (addends-step rest (λ p w y. is_binary p (adding_operator a.operator) (left p w) ((reading p a.term).stands w) (at_number p y)) within x parts.1))
+      (λ x. step-so (λ p e h r l. h (r l))
+      (addends-step rest (λ p w y. is_binary p (adding_operator a.operator) (left p w) ((reading p a.term).stands w) (at_number p y)) within x parts.1))
 
-  factors-step : (xs : List (Multiplied E)) (left : Image → Standing) (within : Within) (n : ExprNo) → factors_built same_built (map (multiplied_of built) xs) within.names ≡ true
-      → Step (factors_made same_image n (map (multiplied_of image) xs) within) (λ p e. left p within n ≡ true → factors_stand p same_reading (left p) (map (multiplied_of (reading p)) xs) within e ≡ true)
+  factors-step : (xs : List (Multiplied E)) (left : Image → Standing) (within : Within) (n : ExprNo)
+      → factors_built same_built (map (multiplied_of built) xs) within.names ≡ true
+      → Step (factors_made same_image n (map (multiplied_of image) xs) within)
+      (λ p e. left p within n ≡ true → factors_stand p same_reading (left p) (map (multiplied_of (reading p)) xs) within e ≡ true)
   unfolding factors_made
   factors-step [] left within n b = step-pure n _ (λ p h. h)
   factors-step (m ∷ rest) left within n b =
       let parts = and_parts _ _ b in
-      step-then (binary_put (multiplying_operator m.operator) n ((image m.factor).made within)) (λ x. factors_made same_image x (map (multiplied_of image) rest) within)
+      step-then (binary_put (multiplying_operator m.operator) n ((image m.factor).made within))
+      (λ x. factors_made same_image x (map (multiplied_of image) rest) within)
       (binary-step (multiplying_operator m.operator) n _ (λ p. left p within) (λ p. (reading p m.factor).stands within) ((law m.factor).stands within parts.0))
-      (λ x. step-so (λ p e h r l. h (r l)) (factors-step rest (λ p w y. is_binary p (multiplying_operator m.operator) (left p w) ((reading p m.factor).stands w) (at_number p y)) within x parts.1))
+      (λ x. step-so (λ p e h r l. h (r l))
+      (factors-step rest
+      (λ p w y. is_binary p (multiplying_operator m.operator) (left p w) ((reading p m.factor).stands w) (at_number p y)) within x parts.1))
 
   -- ---- variables: an index stands there where the text has one
 
-  variable-step : (xs : List (Argument E)) (within : Within) (name : Name) → is_built_if_there same_built (first_argument (map (argument_of built) xs)) within.names ≡ true
-      → Step (variable_put within name (index_in same_image (map (argument_of image) xs) within)) (λ p e. is_variable_at p within name (index_of p same_reading (map (argument_of (reading p)) xs) within) (at_number p e) ≡ true)
+  variable-step : (xs : List (Argument E)) (within : Within) (name : Name)
+      → is_built_if_there same_built (first_argument (map (argument_of built) xs)) within.names ≡ true
+      → Step (variable_put within name (index_in same_image (map (argument_of image) xs) within))
+      (λ p e. is_variable_at p within name (index_of p same_reading (map (argument_of (reading p)) xs) within) (at_number p e) ≡ true)
   unfolding variable_put variable_made index_made
   variable-step [] within name b =
-      step-so (λ p e h. ap (is_variable_at p within name None) h ∙ and_from _ _ (same-object (object_named within name)) refl) (value-step (valuation.Variable (record { object = object_named within name; index = None })))
+      step-so (λ p e h. ap (is_variable_at p within name None) h ∙ and_from _ _ (same-object (object_named within name)) refl)
+      (value-step (valuation.Variable (record { object = object_named within name; index = None })))
   variable-step (a ∷ rest) within name b =
-      step-then ((image a.value).made within) (λ i. value_put (valuation.Variable (record { object = object_named within name; index = Some i }))) ((law a.value).stands within b)
-      (λ i. step-so (λ p e h r. ap (is_variable_at p within name (Some ((reading p a.value).stands within))) h ∙ and_from _ _ (same-object (object_named within name)) r) (value-step (valuation.Variable (record { object = object_named within name; index = Some i }))))
+      step-then ((image a.value).made within) (λ i. value_put (valuation.Variable (record { object = object_named within name; index = Some i })))
+      ((law a.value).stands within b)
+      (λ i. step-so
+      (λ p e h r. ap (is_variable_at p within name (Some ((reading p a.value).stands within))) h ∙ and_from _ _ (same-object (object_named within name)) r)
+      (value-step (valuation.Variable (record { object = object_named within name; index = Some i }))))
 
   object-step : (thing : Bool) (d : Option DeclNo) (xs : List (Argument E)) (within : Within) (name : Name)
       → cond thing (is_some d) (is_built_if_there same_built (first_argument (map (argument_of built) xs)) within.names) ≡ true
-      → Step (cond thing (value_put (valuation.Thing (unwrap_or d no_declaration_no))) (variable_put within name (index_in same_image (map (argument_of image) xs) within)))
-      (λ p e. cond thing (unwrap_or (option_map (λ x. is_thing_at p x (at_number p e)) d) false) (is_variable_at p within name (index_of p same_reading (map (argument_of (reading p)) xs) within) (at_number p e)) ≡ true)
+      → Step (cond thing (value_put (valuation.Thing (unwrap_or d no_declaration_no)))
+      (variable_put within name (index_in same_image (map (argument_of image) xs) within)))
+      (λ p e. cond thing (unwrap_or (option_map (λ x. is_thing_at p x (at_number p e)) d) false)
+      (is_variable_at p within name (index_of p same_reading (map (argument_of (reading p)) xs) within) (at_number p e))
+      ≡ true)
   object-step true None xs within name b = absurd (false≢true b)
   object-step true (Some d) xs within name b = thing-step d
   object-step false d xs within name b = variable-step xs within name b
 
   entity-step : (k : Option EntityKind) (xs : List (Argument E)) (within : Within) (name : Name)
-      → unwrap_or (option_map (λ kind. entity_built kind (is_built_if_there same_built (first_argument (map (argument_of built) xs)) within.names)) k) false ≡ true
+      → unwrap_or (option_map (λ kind. entity_built kind (is_built_if_there same_built (first_argument (map (argument_of built) xs)) within.names)) k) false
+      ≡ true
       → Step (unwrap_or (option_map (entity_made within name (index_in same_image (map (argument_of image) xs) within)) k) no_value)
-      (λ p e. unwrap_or (option_map (λ kind. entity_stands p within name (index_of p same_reading (map (argument_of (reading p)) xs) within) kind (at_number p e)) k) false ≡ true)
+      (λ p e. unwrap_or
+      (option_map (λ kind. entity_stands p within name (index_of p same_reading (map (argument_of (reading p)) xs) within) kind (at_number p e)) k) false
+      ≡ true)
   unfolding entity_made object_made
   entity-step None xs within name b = absurd (false≢true b)
   entity-step (Some entity.Package) xs within name b = absurd (false≢true b)
@@ -215,22 +252,29 @@ module _ {E : Type 0} (image : E → ExpressionImage) (reading : Image → E →
   unfolding image_or_none
   actual-step f [] within b = absurd (false≢true b)
   actual-step f (None ∷ es) within b = absurd (false≢true b)
-  actual-step f (Some e ∷ es) within b = step-then ((image e).made within) (λ x. value_put (f x)) ((law e).stands within b) (λ x. step-so (λ p y h r. (x, h, r)) (value-step (f x)))
+  actual-step f (Some e ∷ es) within b =
+      step-then ((image e).made within) (λ x. value_put (f x)) ((law e).stands within b) (λ x. step-so (λ p y h r. (x, h, r)) (value-step (f x)))
 
   -- of one that may be there
-  optional-step : (f : Option ExprNo → Valuation) (es : List (Option E)) (within : Within) → is_built_if_there same_built (first_given (builts es)) within.names ≡ true
-      → Step (of_task_made f (first_given (images es)) within) (λ p e. (x : Option ExprNo) × IsAt (f x) p e × (optional_stands p (actual_read p es) within x ≡ true))
+  optional-step : (f : Option ExprNo → Valuation) (es : List (Option E)) (within : Within)
+      → is_built_if_there same_built (first_given (builts es)) within.names ≡ true
+      → Step (of_task_made f (first_given (images es)) within)
+      (λ p e. (x : Option ExprNo) × IsAt (f x) p e × (optional_stands p (actual_read p es) within x ≡ true))
   unfolding of_task_made optional_made
   optional-step f [] within b = step-so (λ p y h. (None, h, refl)) (value-step (f None))
   optional-step f (None ∷ es) within b = step-so (λ p y h. (None, h, refl)) (value-step (f None))
-  optional-step f (Some e ∷ es) within b = step-then ((image e).made within) (λ x. value_put (f (Some x))) ((law e).stands within b) (λ x. step-so (λ p y h r. (Some x, h, r)) (value-step (f (Some x))))
+  optional-step f (Some e ∷ es) within b =
+      step-then ((image e).made within) (λ x. value_put (f (Some x))) ((law e).stands within b)
+      (λ x. step-so (λ p y h r. (Some x, h, r)) (value-step (f (Some x))))
 
-  thing-same : (es : List (Option E)) (within : Within) (p : Image) → actual_thing p within (actual_read p es) ≡ thing_in within (name_in (first_given (images es)))
+  thing-same : (es : List (Option E)) (within : Within) (p : Image)
+      → actual_thing p within (actual_read p es) ≡ thing_in within (name_in (first_given (images es)))
   thing-same [] within p = refl
   thing-same (None ∷ es) within p = refl
   thing-same (Some e ∷ es) within p = ap (thing_in within) ((law e).name p)
 
-  thing-function : (f : DeclNo → Valuation) (es : List (Option E)) (within : Within) → Step (of_thing_made f (first_given (images es)) within) (IsAt (f (thing_in within (name_in (first_given (images es))))))
+  thing-function : (f : DeclNo → Valuation) (es : List (Option E)) (within : Within)
+      → Step (of_thing_made f (first_given (images es)) within) (IsAt (f (thing_in within (name_in (first_given (images es))))))
   unfolding of_thing_made
   thing-function f es within = value-step (f (thing_in within (name_in (first_given (images es)))))
 
@@ -238,34 +282,46 @@ module _ {E : Type 0} (image : E → ExpressionImage) (reading : Image → E →
   FunctionStep o = (es : List (Option E)) (within : Within) → operation_built same_built o (builts es) within.names ≡ true
       → Step (function_made o (images es) within) (λ p e. function_stands p o (actual_read p es) within (at_number p e) ≡ true)
 
-  thing-stands : (o : Operation) (f : DeclNo → Valuation) → ((p : Image) (within : Within) (e : Option ExpressionReading) (d : DeclNo) → function_stands p o e within (f d) ≡ same_decl d (actual_thing p within e))
-      → (es : List (Option E)) (within : Within) → Step (of_thing_made f (first_given (images es)) within) (λ p e. function_stands p o (actual_read p es) within (at_number p e) ≡ true)
+  thing-stands : (o : Operation) (f : DeclNo → Valuation)
+      → ((p : Image) (within : Within) (e : Option ExpressionReading) (d : DeclNo) → function_stands p o e within (f d) ≡ same_decl d (actual_thing p within e))
+      → (es : List (Option E)) (within : Within)
+      → Step (of_thing_made f (first_given (images es)) within) (λ p e. function_stands p o (actual_read p es) within (at_number p e) ≡ true)
   thing-stands o f same es within =
-      step-so (λ p e h. ap (function_stands p o (actual_read p es) within) h ∙ same p within (actual_read p es) (thing_in within (name_in (first_given (images es))))
-      ∙ ap (same_decl (thing_in within (name_in (first_given (images es))))) (thing-same es within p) ∙ same-number (thing_in within (name_in (first_given (images es)))).0)
+      step-so (λ p e h.
+      ap (function_stands p o (actual_read p es) within) h ∙ same p within (actual_read p es) (thing_in within (name_in (first_given (images es))))
+      ∙ ap (same_decl (thing_in within (name_in (first_given (images es))))) (thing-same es within p)
+      ∙ same-number (thing_in within (name_in (first_given (images es)))).0)
       (thing-function f es within)
 
-  span-function : (o : Operation) (ticks : ℤ) → ((p : Image) (within : Within) (e : Option ExpressionReading) (x : ExprNo) → function_stands p o e within (valuation.Span ticks x) ≡ (same_number ticks ticks && actual_stands p e within x))
+  span-function : (o : Operation) (ticks : ℤ)
+      → ((p : Image) (within : Within) (e : Option ExpressionReading) (x : ExprNo)
+      → function_stands p o e within (valuation.Span ticks x) ≡ (same_number ticks ticks && actual_stands p e within x))
       → (es : List (Option E)) (within : Within) → is_there same_built (first_given (builts es)) within.names ≡ true
       → Step (span_made ticks (first_given (images es)) within) (λ p e. function_stands p o (actual_read p es) within (at_number p e) ≡ true)
   unfolding span_made
   span-function o ticks same es within b =
-      step-so (λ p e h. ap (function_stands p o (actual_read p es) within) h.1 ∙ same p within (actual_read p es) h.0 ∙ and_from _ _ (same-whole ticks) h.2) (actual-step (valuation.Span ticks) es within b)
+      step-so (λ p e h. ap (function_stands p o (actual_read p es) within) h.1 ∙ same p within (actual_read p es) h.0 ∙ and_from _ _ (same-whole ticks) h.2)
+      (actual-step (valuation.Span ticks) es within b)
 
   function-step : (o : Operation) → FunctionStep o
   unfolding function_made same_ticks_made port_made
   function-step operations.PutLine es within b = absurd (false≢true b)
-  function-step operations.Clock es within b = step-so (λ p e h. ap (function_stands p operations.Clock (actual_read p es) within) h) (value-step valuation.Clock)
+  function-step operations.Clock es within b =
+      step-so (λ p e h. ap (function_stands p operations.Clock (actual_read p es) within) h) (value-step valuation.Clock)
   function-step operations.Microseconds es within b = span-function operations.Microseconds (pos 1) (λ p w e x. refl) es within b
   function-step operations.Milliseconds es within b = span-function operations.Milliseconds (pos 1000) (λ p w e x. refl) es within b
   function-step operations.Seconds es within b = span-function operations.Seconds (pos 1000000) (λ p w e x. refl) es within b
   function-step operations.Minutes es within b = span-function operations.Minutes (pos 60000000) (λ p w e x. refl) es within b
-  function-step operations.ToDuration es within b = step-so (λ p e h. ap (function_stands p operations.ToDuration (actual_read p es) within) h.1 ∙ h.2) (actual-step valuation.SameTicks es within b)
-  function-step operations.ToTimeSpan es within b = step-so (λ p e h. ap (function_stands p operations.ToTimeSpan (actual_read p es) within) h.1 ∙ h.2) (actual-step valuation.SameTicks es within b)
+  function-step operations.ToDuration es within b =
+      step-so (λ p e h. ap (function_stands p operations.ToDuration (actual_read p es) within) h.1 ∙ h.2) (actual-step valuation.SameTicks es within b)
+  function-step operations.ToTimeSpan es within b =
+      step-so (λ p e h. ap (function_stands p operations.ToTimeSpan (actual_read p es) within) h.1 ∙ h.2) (actual-step valuation.SameTicks es within b)
   function-step operations.SetEvent es within b = absurd (false≢true b)
   function-step operations.CancelEvent es within b = absurd (false≢true b)
   function-step operations.TimeOfEvent es within b = thing-stands operations.TimeOfEvent valuation.TimeOfEvent (λ p w e d. refl) es within
-  function-step operations.ExecutionClock es within b = step-so (λ p e h. ap (function_stands p operations.ExecutionClock (actual_read p es) within) h.1 ∙ h.2) (optional-step valuation.ExecutionTime es within b)
+  function-step operations.ExecutionClock es within b =
+      step-so (λ p e h. ap (function_stands p operations.ExecutionClock (actual_read p es) within) h.1 ∙ h.2)
+      (optional-step valuation.ExecutionTime es within b)
   function-step operations.SetTimer es within b = absurd (false≢true b)
   function-step operations.CancelTimer es within b = absurd (false≢true b)
   function-step operations.TimeRemaining es within b = thing-stands operations.TimeRemaining valuation.TimeRemaining (λ p w e d. refl) es within
@@ -278,27 +334,37 @@ module _ {E : Type 0} (image : E → ExpressionImage) (reading : Image → E →
   function-step operations.SetBudget es within b = absurd (false≢true b)
   function-step operations.CancelBudget es within b = absurd (false≢true b)
   function-step operations.SetPriority es within b = absurd (false≢true b)
-  function-step operations.GetPriority es within b = step-so (λ p e h. ap (function_stands p operations.GetPriority (actual_read p es) within) h.1 ∙ h.2) (optional-step valuation.Priority es within b)
-  function-step operations.CurrentTask es within b = step-so (λ p e h. ap (function_stands p operations.CurrentTask (actual_read p es) within) h) (value-step valuation.CurrentTask)
+  function-step operations.GetPriority es within b =
+      step-so (λ p e h. ap (function_stands p operations.GetPriority (actual_read p es) within) h.1 ∙ h.2) (optional-step valuation.Priority es within b)
+  function-step operations.CurrentTask es within b =
+      step-so (λ p e h. ap (function_stands p operations.CurrentTask (actual_read p es) within) h) (value-step valuation.CurrentTask)
   function-step operations.SetQuantum es within b = absurd (false≢true b)
   function-step operations.SetDeadline es within b = absurd (false≢true b)
-  function-step operations.GetDeadline es within b = step-so (λ p e h. ap (function_stands p operations.GetDeadline (actual_read p es) within) h.1 ∙ h.2) (optional-step valuation.Deadline es within b)
+  function-step operations.GetDeadline es within b =
+      step-so (λ p e h. ap (function_stands p operations.GetDeadline (actual_read p es) within) h.1 ∙ h.2) (optional-step valuation.Deadline es within b)
   function-step operations.DelayUntilAndSetDeadline es within b = absurd (false≢true b)
-  function-step operations.PortValue es within b = step-so (λ p e h. ap (function_stands p operations.PortValue (actual_read p es) within) h.1 ∙ h.2) (actual-step valuation.PortValue es within b)
+  function-step operations.PortValue es within b =
+      step-so (λ p e h. ap (function_stands p operations.PortValue (actual_read p es) within) h.1 ∙ h.2) (actual-step valuation.PortValue es within b)
 
   -- ---- names
 
-  operation-step : (o : Operation) (xs : List (Argument E)) (within : Within) → operation_built same_built o (actuals_for (names_of_formals o) (map (argument_of built) xs)) within.names ≡ true
+  operation-step : (o : Operation) (xs : List (Argument E)) (within : Within)
+      → operation_built same_built o (actuals_for (names_of_formals o) (map (argument_of built) xs)) within.names ≡ true
       → Step (function_made o (images_for same_image (actuals_for (names_of_formals o) (map (argument_of image) xs))) within)
-      (λ p e. function_stands p o (first_of_actuals p same_reading (actuals_for (names_of_formals o) (map (argument_of (reading p)) xs))) within (at_number p e) ≡ true)
+      (λ p e. function_stands p o (first_of_actuals p same_reading (actuals_for (names_of_formals o) (map (argument_of (reading p)) xs))) within (at_number p e)
+      ≡ true)
   operation-step o xs within b =
-      step-so (λ p e h. ap (λ rs. function_stands p o (first_of_actuals p same_reading rs) within (at_number p e)) (actuals-mapped (reading p) (names_of_formals o) xs) ∙ h)
-      (subst (λ is. Step (function_made o (images_for same_image is) within) (λ p e. function_stands p o (actual_read p (actuals_for (names_of_formals o) xs)) within (at_number p e) ≡ true))
+      step-so (λ p e h.
+      ap (λ rs. function_stands p o (first_of_actuals p same_reading rs) within (at_number p e)) (actuals-mapped (reading p) (names_of_formals o) xs) ∙ h)
+      (subst (λ is. Step (function_made o (images_for same_image is) within)
+      (λ p e. function_stands p o (actual_read p (actuals_for (names_of_formals o) xs)) within (at_number p e) ≡ true))
       (sym (actuals-mapped image (names_of_formals o) xs))
-      (function-step o (actuals_for (names_of_formals o) xs) within (sym (ap (λ bs. operation_built same_built o bs within.names) (actuals-mapped built (names_of_formals o) xs)) ∙ b)))
+      (function-step o (actuals_for (names_of_formals o) xs) within
+      (sym (ap (λ bs. operation_built same_built o bs within.names) (actuals-mapped built (names_of_formals o) xs)) ∙ b)))
 
   item-step : (item : Predefined) (xs : List (Argument E)) (within : Within) → item_built same_built item (map (argument_of built) xs) within.names ≡ true
-      → Step (item_made same_image item (map (argument_of image) xs) within) (λ p e. item_stands p same_reading item (map (argument_of (reading p)) xs) within (at_number p e) ≡ true)
+      → Step (item_made same_image item (map (argument_of image) xs) within)
+      (λ p e. item_stands p same_reading item (map (argument_of (reading p)) xs) within (at_number p e) ≡ true)
   unfolding item_made
   item-step (items.Mark s) xs within b = absurd (false≢true b)
   item-step (items.Constant of_type v) xs within b = known-step v b
@@ -306,16 +372,20 @@ module _ {E : Type 0} (image : E → ExpressionImage) (reading : Image → E →
   item-step (items.Exception raised) xs within b = absurd (false≢true b)
   item-step (items.Operation o) xs within b = operation-step o xs within b
 
-  denoted-step : (d : Option Denoted) (xs : List (Argument E)) (within : Within) (name : Name) → denoted_built same_built (map (argument_of built) xs) d within.names ≡ true
-      → Step (denoted_made same_image name (map (argument_of image) xs) within d) (λ p e. denoted_stands p same_reading name (map (argument_of (reading p)) xs) within d (at_number p e) ≡ true)
+  denoted-step : (d : Option Denoted) (xs : List (Argument E)) (within : Within) (name : Name)
+      → denoted_built same_built (map (argument_of built) xs) d within.names ≡ true
+      → Step (denoted_made same_image name (map (argument_of image) xs) within d)
+      (λ p e. denoted_stands p same_reading name (map (argument_of (reading p)) xs) within d (at_number p e) ≡ true)
   unfolding denoted_made
   denoted-step None xs within name b = absurd (false≢true b)
   denoted-step (Some (denotes.Entity e)) xs within name b = entity-step (kind_at within.names e) xs within name b
   denoted-step (Some (denotes.Unit u)) xs within name b = absurd (false≢true b)
   denoted-step (Some (denotes.Item u item)) xs within name b = item-step item xs within b
 
-  named-step : (a : Option AttributeDesignator) (xs : List (Argument E)) (within : Within) (name : Name) → named_built same_built name a (map (argument_of built) xs) within.names ≡ true
-      → Step (named_made same_image name a (map (argument_of image) xs) within) (λ p e. named_stands p same_reading name a (map (argument_of (reading p)) xs) within (at_number p e) ≡ true)
+  named-step : (a : Option AttributeDesignator) (xs : List (Argument E)) (within : Within) (name : Name)
+      → named_built same_built name a (map (argument_of built) xs) within.names ≡ true
+      → Step (named_made same_image name a (map (argument_of image) xs) within)
+      (λ p e. named_stands p same_reading name a (map (argument_of (reading p)) xs) within (at_number p e) ≡ true)
   unfolding named_made
   named-step None xs within name b = denoted-step (denoted_by within.names name) xs within name b
   named-step (Some a) xs within name b = attribute-step within name a.attribute b
@@ -331,36 +401,45 @@ module _ {E : Type 0} (image : E → ExpressionImage) (reading : Image → E →
 
   abbrev FormStep : ExpressionForm E → Type 0
   FormStep x = (within : Within) → form_built same_built (mapped_form built x) within.names ≡ true
-      → Step ((form_image same_image (mapped_form image x)).made within) (λ p e. (form_reading p same_reading (mapped_form (reading p) x)).stands within e ≡ true)
+      → Step ((form_image same_image (mapped_form image x)).made within)
+      (λ p e. (form_reading p same_reading (mapped_form (reading p) x)).stands within e ≡ true)
 
   form-step : (x : ExpressionForm E) → FormStep x
   unfolding logical_made relational_made adding_made multiplying_made
   form-step (form.Logical operator first others) within b =
       let parts = and_parts _ _ b in
-      step-then ((image first).made within) (λ n. operands_made same_image (logical_operator operator) n (map (operand_of image) (others.first ∷ others.others)) within) ((law first).stands within parts.0)
+      step-then ((image first).made within)
+      (λ n. operands_made same_image (logical_operator operator) n (map (operand_of image) (others.first ∷ others.others)) within)
+      ((law first).stands within parts.0)
       (λ n. operands-step (logical_operator operator) (others.first ∷ others.others) (λ p. (reading p first).stands) within n parts.1)
   form-step (form.Relational left place operator right) within b =
       let parts = and_parts _ _ b in
       step-then ((image left).made within) (λ n. binary_put (relational_operator operator) n ((image right).made within)) ((law left).stands within parts.0)
-      (λ n. binary-step (relational_operator operator) n _ (λ p. (reading p left).stands within) (λ p. (reading p right).stands within) ((law right).stands within parts.1))
+      (λ n. binary-step (relational_operator operator) n _ (λ p. (reading p left).stands within) (λ p. (reading p right).stands within)
+      ((law right).stands within parts.1))
   form-step (form.Adding first others) within b =
       let parts = and_parts _ _ b in
-      step-then ((image first).made within) (λ n. addends_made same_image n (map (addend_of image) (others.first ∷ others.others)) within) ((law first).stands within parts.0)
+      step-then ((image first).made within) (λ n. addends_made same_image n (map (addend_of image) (others.first ∷ others.others)) within)
+      ((law first).stands within parts.0)
       (λ n. addends-step (others.first ∷ others.others) (λ p. (reading p first).stands) within n parts.1)
   form-step (form.Signed place s operand) within b =
-      step-so (λ p e h. ap (λ literal. signed_stands p same_reading s literal ((reading p operand).stands) within e) ((law operand).literal p) ∙ h) (signed-step s operand (image operand).literal refl within b)
+      step-so (λ p e h. ap (λ literal. signed_stands p same_reading s literal ((reading p operand).stands) within e) ((law operand).literal p) ∙ h)
+      (signed-step s operand (image operand).literal refl within b)
   form-step (form.Multiplying first others) within b =
       let parts = and_parts _ _ b in
-      step-then ((image first).made within) (λ n. factors_made same_image n (map (multiplied_of image) (others.first ∷ others.others)) within) ((law first).stands within parts.0)
+      step-then ((image first).made within) (λ n. factors_made same_image n (map (multiplied_of image) (others.first ∷ others.others)) within)
+      ((law first).stands within parts.0)
       (λ n. factors-step (others.first ∷ others.others) (λ p. (reading p first).stands) within n parts.1)
-  form-step (form.Highest place operator operand) within b = unary-step (highest_operator operator) _ (λ p. (reading p operand).stands within) ((law operand).stands within b)
+  form-step (form.Highest place operator operand) within b =
+      unary-step (highest_operator operator) _ (λ p. (reading p operand).stands within) ((law operand).stands within b)
   form-step (form.Number place literal) within b = known-step (literal_value literal) (given-literal literal)
   form-step (form.Text place text) within b = absurd (false≢true b)
   form-step (form.Null place) within b = absurd (false≢true b)
   form-step (form.Bracketed place inner) within b = (law inner).stands within b
   form-step (form.Named name a arguments) within b = named-step a arguments within name b
 
-  form-literal : (x : ExpressionForm E) (p : Image) → (form_reading p same_reading (mapped_form (reading p) x)).literal ≡ (form_image same_image (mapped_form image x)).literal
+  form-literal : (x : ExpressionForm E) (p : Image)
+      → (form_reading p same_reading (mapped_form (reading p) x)).literal ≡ (form_image same_image (mapped_form image x)).literal
   form-literal (form.Logical operator first others) p = refl
   form-literal (form.Relational left place operator right) p = refl
   form-literal (form.Adding first others) p = refl
@@ -386,7 +465,8 @@ module _ {E : Type 0} (image : E → ExpressionImage) (reading : Image → E →
   form-given (form.Bracketed place inner) v e = absurd (None≢Some e)
   form-given (form.Named name a arguments) v e = absurd (None≢Some e)
 
-  form-name : (x : ExpressionForm E) (p : Image) → (form_reading p same_reading (mapped_form (reading p) x)).name ≡ (form_image same_image (mapped_form image x)).name
+  form-name : (x : ExpressionForm E) (p : Image)
+      → (form_reading p same_reading (mapped_form (reading p) x)).name ≡ (form_image same_image (mapped_form image x)).name
   form-name (form.Logical operator first others) p = refl
   form-name (form.Relational left place operator right) p = refl
   form-name (form.Adding first others) p = refl
@@ -399,7 +479,9 @@ module _ {E : Type 0} (image : E → ExpressionImage) (reading : Image → E →
   form-name (form.Bracketed place inner) p = (law inner).name p
   form-name (form.Named name a arguments) p = refl
 
-  pub form-law : (x : ExpressionForm E) → ExpressionLaw (form_image same_image (mapped_form image x)) (λ p. form_reading p same_reading (mapped_form (reading p) x)) (form_built same_built (mapped_form built x))
+  pub form-law : (x : ExpressionForm E)
+      → ExpressionLaw (form_image same_image (mapped_form image x)) (λ p. form_reading p same_reading (mapped_form (reading p) x))
+      (form_built same_built (mapped_form built x))
   form-law x = record { literal = form-literal x; given = form-given x; name = form-name x; stands = form-step x }
 
 -- ---- layers that are replaced twice
@@ -410,21 +492,26 @@ map-twice f g h same (x ∷ xs) = rw (same x, map-twice f g h same xs) refl
 
 pub mapped-twice : {A B C : Type 0} (f : B → C) (g : A → B) (x : ExpressionForm A) → mapped_form f (mapped_form g x) ≡ mapped_form (λ e. f (g e)) x
 mapped-twice f g (form.Logical operator first others) =
-    ap (λ os. form.Logical operator (f (g first)) (record { first = operand_of f (operand_of g others.first); others = os })) (map-twice (operand_of f) (operand_of g) (operand_of (λ e. f (g e))) (λ x. refl) others.others)
+    ap (λ os. form.Logical operator (f (g first)) (record { first = operand_of f (operand_of g others.first); others = os }))
+    (map-twice (operand_of f) (operand_of g) (operand_of (λ e. f (g e))) (λ x. refl) others.others)
 mapped-twice f g (form.Relational left place operator right) = refl
 mapped-twice f g (form.Adding first others) =
-    ap (λ os. form.Adding (f (g first)) (record { first = addend_of f (addend_of g others.first); others = os })) (map-twice (addend_of f) (addend_of g) (addend_of (λ e. f (g e))) (λ x. refl) others.others)
+    ap (λ os. form.Adding (f (g first)) (record { first = addend_of f (addend_of g others.first); others = os }))
+    (map-twice (addend_of f) (addend_of g) (addend_of (λ e. f (g e))) (λ x. refl) others.others)
 mapped-twice f g (form.Signed place s operand) = refl
 mapped-twice f g (form.Multiplying first others) =
-    ap (λ os. form.Multiplying (f (g first)) (record { first = multiplied_of f (multiplied_of g others.first); others = os })) (map-twice (multiplied_of f) (multiplied_of g) (multiplied_of (λ e. f (g e))) (λ x. refl) others.others)
+    ap (λ os. form.Multiplying (f (g first)) (record { first = multiplied_of f (multiplied_of g others.first); others = os }))
+    (map-twice (multiplied_of f) (multiplied_of g) (multiplied_of (λ e. f (g e))) (λ x. refl) others.others)
 mapped-twice f g (form.Highest place operator operand) = refl
 mapped-twice f g (form.Number place literal) = refl
 mapped-twice f g (form.Text place text) = refl
 mapped-twice f g (form.Null place) = refl
 mapped-twice f g (form.Bracketed place inner) = refl
-mapped-twice f g (form.Named name a arguments) = ap (form.Named name a) (map-twice (argument_of f) (argument_of g) (argument_of (λ e. f (g e))) (λ x. refl) arguments)
+mapped-twice f g (form.Named name a arguments) =
+    ap (form.Named name a) (map-twice (argument_of f) (argument_of g) (argument_of (λ e. f (g e))) (λ x. refl) arguments)
 
-law-of_reading : {image : ExpressionImage} {r s : Image → ExpressionReading} {built : Built} → ((p : Image) → r p ≡ s p) → ExpressionLaw image r built → ExpressionLaw image s built
+law-of_reading : {image : ExpressionImage} {r s : Image → ExpressionReading} {built : Built} → ((p : Image) → r p ≡ s p) → ExpressionLaw image r built
+    → ExpressionLaw image s built
 law-of_reading same law = record {
   literal = λ p. ap (λ x. x.literal) (sym (same p)) ∙ law.literal p;
   given = law.given;
@@ -437,24 +524,33 @@ law-of_reading same law = record {
 abbrev Lawful : Expression → Type 0
 Lawful e = ExpressionLaw (expression_image e) (λ p. expression_reading p e) (expression_built e)
 
-module _ (x : Expression-F Expression) (y : Expression-F ((e : Expression) × Lawful e)) (is : map-Expression ((e : Expression) × Lawful e) Expression (λ e. e.0) y ≡ x) where
+module _ (x : Expression-F Expression) (y : Expression-F ((e : Expression) × Lawful e))
+    (is : map-Expression ((e : Expression) × Lawful e) Expression (λ e. e.0) y ≡ x) where
   same-layer : {A : Type 0} (f : Expression → A) → mapped_form (λ (e : (e : Expression) × Lawful e). f e.0) y.form ≡ (map-Expression Expression A f x).form
-  same-layer {A} f = sym (mapped-twice f (λ (e : (e : Expression) × Lawful e). e.0) y.form) ∙ ap (λ (z : Expression-F Expression). (map-Expression Expression A f z).form) is
+  same-layer {A} f =
+      sym (mapped-twice f (λ (e : (e : Expression) × Lawful e). e.0) y.form) ∙ ap (λ (z : Expression-F Expression). (map-Expression Expression A f z).form) is
 
-  rolled : {A : Type 0} (step : ExpressionForm A → A) → step (mapped_form (λ (e : (e : Expression) × Lawful e). fold-Expression A (λ z. step z.form) e.0) y.form) ≡ fold-Expression A (λ z. step z.form) (roll-Expression x)
+  rolled : {A : Type 0} (step : ExpressionForm A → A)
+      → step (mapped_form (λ (e : (e : Expression) × Lawful e). fold-Expression A (λ z. step z.form) e.0) y.form)
+      ≡ fold-Expression A (λ z. step z.form) (roll-Expression x)
   rolled {A} step = ap step (same-layer (fold-Expression A (λ z. step z.form))) ∙ sym (fold-roll-Expression A (λ z. step z.form) x)
 
   rolled-law : Lawful (roll-Expression x)
   rolled-law =
-      subst (λ image. ExpressionLaw image (λ p. expression_reading p (roll-Expression x)) (expression_built (roll-Expression x))) (rolled (form_image same_image))
-      (subst (λ built. ExpressionLaw (form_image same_image (mapped_form (λ (e : (e : Expression) × Lawful e). expression_image e.0) y.form)) (λ p. expression_reading p (roll-Expression x)) built) (rolled (form_built same_built))
-      (law-of_reading (λ p. rolled (form_reading p same_reading)) (form-law (λ e. expression_image e.0) (λ p e. expression_reading p e.0) (λ e. expression_built e.0) (λ e. e.1) y.form)))
+      subst (λ image. ExpressionLaw image (λ p. expression_reading p (roll-Expression x)) (expression_built (roll-Expression x)))
+      (rolled (form_image same_image))
+      (subst (λ built. ExpressionLaw (form_image same_image (mapped_form (λ (e : (e : Expression) × Lawful e). expression_image e.0) y.form))
+      (λ p. expression_reading p (roll-Expression x)) built)
+      (rolled (form_built same_built))
+      (law-of_reading (λ p. rolled (form_reading p same_reading))
+      (form-law (λ e. expression_image e.0) (λ p e. expression_reading p e.0) (λ e. expression_built e.0) (λ e. e.1) y.form)))
 
 pub expression-law : (e : Expression) → Lawful e
 expression-law = ind-Expression Lawful rolled-law
 
 -- ---- of expressions as statements make them
 
-pub expression-step : (e : Expression) (within : Within) → expression_built e within.names ≡ true → Step (expression_made e within) (λ p n. expression_stands p within e n ≡ true)
+pub expression-step : (e : Expression) (within : Within) → expression_built e within.names ≡ true
+    → Step (expression_made e within) (λ p n. expression_stands p within e n ≡ true)
 unfolding expression_made
 expression-step e within b = (expression-law e).stands within b

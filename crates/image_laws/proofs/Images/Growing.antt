@@ -38,7 +38,12 @@ use Rattle.ada_image.specs.declared.making.Lists.{Lists}
 use Rattle.ada_image.specs.declared.making.Within.{Within}
 use Rattle.ada_image.specs.Making.{Making, ◌>>=◌, pure, value_put, first_given}
 use Rattle.ada_image.specs.Layout.{is_thing, subtype_is}
-use Rattle.ada_image.specs.ImageOfExpressions.{ExpressionImage, logical_operator, relational_operator, adding_operator, multiplying_operator, no_value, no_declaration_no, object_named, kind_named, index_made, variable_made, variable_put, object_made, entity_made, actuals_for, images_for, image_or_none, optional_made, span_made, same_ticks_made, of_task_made, port_made, of_thing_made, function_made, item_made, index_in, denoted_made, named_made, unary_made, signed_made, count_of, count_made, attribute_made, binary_put, operands_made, addends_made, factors_made, logical_made, relational_made, adding_made, multiplying_made, form_image, same_image, image_layer, expression_image, expression_made}
+use Rattle.ada_image.specs.ImageOfExpressions.{ExpressionImage, logical_operator, relational_operator, adding_operator, multiplying_operator, no_value}
+use Rattle.ada_image.specs.ImageOfExpressions.{no_declaration_no, object_named, kind_named, index_made, variable_made, variable_put, object_made, entity_made}
+use Rattle.ada_image.specs.ImageOfExpressions.{actuals_for, images_for, image_or_none, optional_made, span_made, same_ticks_made, of_task_made, port_made}
+use Rattle.ada_image.specs.ImageOfExpressions.{of_thing_made, function_made, item_made, index_in, denoted_made, named_made, unary_made, signed_made, count_of}
+use Rattle.ada_image.specs.ImageOfExpressions.{count_made, attribute_made, binary_put, operands_made, addends_made, factors_made, logical_made, relational_made}
+use Rattle.ada_image.specs.ImageOfExpressions.{adding_made, multiplying_made, form_image, same_image, image_layer, expression_image, expression_made}
 use Rattle.image_laws.proofs.Images.Steps.{Grown, grown-same, grown-then, value-step}
 use Rattle.image_laws.proofs.Images.Expressions.{operand_of, addend_of, multiplied_of, argument_of, mapped_form, actuals-mapped, mapped-twice}
 
@@ -50,7 +55,11 @@ pub grows-pure : {X : Type 0} (x : X) → Grows (pure x)
 grows-pure x l = (grown-same l, refl, refl)
 
 pub grows-then : {X Y : Type 0} (m : Making X) (f : X → Making Y) → Grows m → ((x : X) → Grows (f x)) → Grows (m >>= f)
-grows-then m f g h l = (grown-then l (m l).0 (f (m l).1 (m l).0).0 (g l).0 (h (m l).1 (m l).0).0, (h (m l).1 (m l).0).1 ∙ (g l).1, (h (m l).1 (m l).0).2 ∙ (g l).2)
+grows-then m f g h l = (
+  grown-then l (m l).0 (f (m l).1 (m l).0).0 (g l).0 (h (m l).1 (m l).0).0,
+  (h (m l).1 (m l).0).1 ∙ (g l).1,
+  (h (m l).1 (m l).0).2 ∙ (g l).2,
+)
 
 value-grows : (v : Valuation) → Grows (value_put v)
 unfolding value_put
@@ -100,36 +109,44 @@ signed-grows sign.Minus (Some v) m g = value-grows _
 -- ---- one layer
 
 module _ {E : Type 0} (image : E → ExpressionImage) (grows : (e : E) (within : Within) → Grows ((image e).made within)) where
-  operands-grow : (operator : BinaryOperator) (os : List (Operand E)) (within : Within) (n : ExprNo) → Grows (operands_made same_image operator n (map (operand_of image) os) within)
+  operands-grow : (operator : BinaryOperator) (os : List (Operand E)) (within : Within) (n : ExprNo)
+      → Grows (operands_made same_image operator n (map (operand_of image) os) within)
   unfolding operands_made
   operands-grow operator [] within n = grows-pure n
   operands-grow operator (o ∷ os) within n =
-      grows-then (binary_put operator n ((image o.relation).made within)) (λ x. operands_made same_image operator x (map (operand_of image) os) within) (binary-grows operator n _ (grows o.relation within)) (λ x. operands-grow operator os within x)
+      grows-then (binary_put operator n ((image o.relation).made within)) (λ x. operands_made same_image operator x (map (operand_of image) os) within)
+      (binary-grows operator n _ (grows o.relation within)) (λ x. operands-grow operator os within x)
 
   addends-grow : (xs : List (Addend E)) (within : Within) (n : ExprNo) → Grows (addends_made same_image n (map (addend_of image) xs) within)
   unfolding addends_made
   addends-grow [] within n = grows-pure n
   addends-grow (a ∷ rest) within n =
-      grows-then (binary_put (adding_operator a.operator) n ((image a.term).made within)) (λ x. addends_made same_image x (map (addend_of image) rest) within) (binary-grows _ n _ (grows a.term within)) (λ x. addends-grow rest within x)
+      grows-then (binary_put (adding_operator a.operator) n ((image a.term).made within)) (λ x. addends_made same_image x (map (addend_of image) rest) within)
+      (binary-grows _ n _ (grows a.term within)) (λ x. addends-grow rest within x)
 
   factors-grow : (xs : List (Multiplied E)) (within : Within) (n : ExprNo) → Grows (factors_made same_image n (map (multiplied_of image) xs) within)
   unfolding factors_made
   factors-grow [] within n = grows-pure n
   factors-grow (a ∷ rest) within n =
-      grows-then (binary_put (multiplying_operator a.operator) n ((image a.factor).made within)) (λ x. factors_made same_image x (map (multiplied_of image) rest) within) (binary-grows _ n _ (grows a.factor within)) (λ x. factors-grow rest within x)
+      grows-then (binary_put (multiplying_operator a.operator) n ((image a.factor).made within))
+      (λ x. factors_made same_image x (map (multiplied_of image) rest) within) (binary-grows _ n _ (grows a.factor within))
+      (λ x. factors-grow rest within x)
 
-  variable-grows : (xs : List (Argument E)) (within : Within) (name : Name) → Grows (variable_put within name (index_in same_image (map (argument_of image) xs) within))
+  variable-grows : (xs : List (Argument E)) (within : Within) (name : Name)
+      → Grows (variable_put within name (index_in same_image (map (argument_of image) xs) within))
   unfolding variable_put variable_made index_made
   variable-grows [] within name = value-grows (valuation.Variable (record { object = object_named within name; index = None }))
   variable-grows (a ∷ rest) within name =
-      grows-then ((image a.value).made within) (λ i. value_put (valuation.Variable (record { object = object_named within name; index = Some i }))) (grows a.value within) (λ i. value-grows _)
+      grows-then ((image a.value).made within) (λ i. value_put (valuation.Variable (record { object = object_named within name; index = Some i })))
+      (grows a.value within) (λ i. value-grows _)
 
   object-grows : (thing : Bool) (d : DeclNo) (xs : List (Argument E)) (within : Within) (name : Name)
       → Grows (cond thing (value_put (valuation.Thing d)) (variable_put within name (index_in same_image (map (argument_of image) xs) within)))
   object-grows true d xs within name = value-grows _
   object-grows false d xs within name = variable-grows xs within name
 
-  entity-grows : (k : Option EntityKind) (xs : List (Argument E)) (within : Within) (name : Name) → Grows (unwrap_or (option_map (entity_made within name (index_in same_image (map (argument_of image) xs) within)) k) no_value)
+  entity-grows : (k : Option EntityKind) (xs : List (Argument E)) (within : Within) (name : Name)
+      → Grows (unwrap_or (option_map (entity_made within name (index_in same_image (map (argument_of image) xs) within)) k) no_value)
   unfolding entity_made object_made
   entity-grows None xs within name = value-grows _
   entity-grows (Some entity.Package) xs within name = value-grows _
@@ -137,7 +154,8 @@ module _ {E : Type 0} (image : E → ExpressionImage) (grows : (e : E) (within :
   entity-grows (Some (entity.Mark s)) xs within name = value-grows _
   entity-grows (Some (entity.Literal enumeration position)) xs within name = value-grows _
   entity-grows (Some (entity.Object s constant x declaration)) xs within name = object-grows (subtype_is is_thing s) declaration xs within name
-  entity-grows (Some (entity.Parameter s mode declaration)) xs within name = object-grows (subtype_is is_thing s) (unwrap_or declaration no_declaration_no) xs within name
+  entity-grows (Some (entity.Parameter s mode declaration)) xs within name =
+      object-grows (subtype_is is_thing s) (unwrap_or declaration no_declaration_no) xs within name
   entity-grows (Some (entity.LoopParameter declaration)) xs within name = variable-grows xs within name
   entity-grows (Some (entity.Component s owner declaration)) xs within name = variable-grows xs within name
   entity-grows (Some (entity.Exception declaration)) xs within name = value-grows _
@@ -150,7 +168,8 @@ module _ {E : Type 0} (image : E → ExpressionImage) (grows : (e : E) (within :
   abbrev images : List (Option E) → List (Option ExpressionImage)
   images es = images_for same_image (map (option_map image) es)
 
-  actual-grows : (f : ExprNo → Valuation) (es : List (Option E)) (within : Within) → Grows (image_or_none (first_given (images es)) within >>= (λ x. value_put (f x)))
+  actual-grows : (f : ExprNo → Valuation) (es : List (Option E)) (within : Within)
+      → Grows (image_or_none (first_given (images es)) within >>= (λ x. value_put (f x)))
   unfolding image_or_none
   actual-grows f [] within = grows-then no_value (λ x. value_put (f x)) (value-grows _) (λ x. value-grows _)
   actual-grows f (None ∷ es) within = grows-then no_value (λ x. value_put (f x)) (value-grows _) (λ x. value-grows _)
@@ -203,16 +222,19 @@ module _ {E : Type 0} (image : E → ExpressionImage) (grows : (e : E) (within :
   item-grows (items.Truth t) xs within = value-grows _
   item-grows (items.Exception raised) xs within = value-grows _
   item-grows (items.Operation o) xs within =
-      subst (λ is. Grows (function_made o (images_for same_image is) within)) (sym (actuals-mapped image (names_of_formals o) xs)) (function-grows o (actuals_for (names_of_formals o) xs) within)
+      subst (λ is. Grows (function_made o (images_for same_image is) within)) (sym (actuals-mapped image (names_of_formals o) xs))
+      (function-grows o (actuals_for (names_of_formals o) xs) within)
 
-  denoted-grows : (d : Option Denoted) (xs : List (Argument E)) (within : Within) (name : Name) → Grows (denoted_made same_image name (map (argument_of image) xs) within d)
+  denoted-grows : (d : Option Denoted) (xs : List (Argument E)) (within : Within) (name : Name)
+      → Grows (denoted_made same_image name (map (argument_of image) xs) within d)
   unfolding denoted_made
   denoted-grows None xs within name = value-grows _
   denoted-grows (Some (denotes.Entity e)) xs within name = entity-grows (kind_at within.names e) xs within name
   denoted-grows (Some (denotes.Unit u)) xs within name = value-grows _
   denoted-grows (Some (denotes.Item u item)) xs within name = item-grows item xs within
 
-  named-grows : (a : Option AttributeDesignator) (xs : List (Argument E)) (within : Within) (name : Name) → Grows (named_made same_image name a (map (argument_of image) xs) within)
+  named-grows : (a : Option AttributeDesignator) (xs : List (Argument E)) (within : Within) (name : Name)
+      → Grows (named_made same_image name a (map (argument_of image) xs) within)
   unfolding named_made
   named-grows None xs within name = denoted-grows (denoted_by within.names name) xs within name
   named-grows (Some a) xs within name = attribute-grows within name a.attribute
@@ -220,15 +242,19 @@ module _ {E : Type 0} (image : E → ExpressionImage) (grows : (e : E) (within :
   form-grows : (x : ExpressionForm E) (within : Within) → Grows ((form_image same_image (mapped_form image x)).made within)
   unfolding logical_made relational_made adding_made multiplying_made
   form-grows (form.Logical operator first others) within =
-      grows-then ((image first).made within) (λ n. operands_made same_image (logical_operator operator) n (map (operand_of image) (others.first ∷ others.others)) within) (grows first within)
+      grows-then ((image first).made within)
+      (λ n. operands_made same_image (logical_operator operator) n (map (operand_of image) (others.first ∷ others.others)) within) (grows first within)
       (λ n. operands-grow (logical_operator operator) (others.first ∷ others.others) within n)
   form-grows (form.Relational left place operator right) within =
-      grows-then ((image left).made within) (λ n. binary_put (relational_operator operator) n ((image right).made within)) (grows left within) (λ n. binary-grows _ n _ (grows right within))
+      grows-then ((image left).made within) (λ n. binary_put (relational_operator operator) n ((image right).made within)) (grows left within)
+      (λ n. binary-grows _ n _ (grows right within))
   form-grows (form.Adding first others) within =
-      grows-then ((image first).made within) (λ n. addends_made same_image n (map (addend_of image) (others.first ∷ others.others)) within) (grows first within) (λ n. addends-grow (others.first ∷ others.others) within n)
+      grows-then ((image first).made within) (λ n. addends_made same_image n (map (addend_of image) (others.first ∷ others.others)) within) (grows first within)
+      (λ n. addends-grow (others.first ∷ others.others) within n)
   form-grows (form.Signed place s operand) within = signed-grows s (image operand).literal _ (grows operand within)
   form-grows (form.Multiplying first others) within =
-      grows-then ((image first).made within) (λ n. factors_made same_image n (map (multiplied_of image) (others.first ∷ others.others)) within) (grows first within) (λ n. factors-grow (others.first ∷ others.others) within n)
+      grows-then ((image first).made within) (λ n. factors_made same_image n (map (multiplied_of image) (others.first ∷ others.others)) within)
+      (grows first within) (λ n. factors-grow (others.first ∷ others.others) within n)
   form-grows (form.Highest place operator operand) within = unary-grows _ _ (grows operand within)
   form-grows (form.Number place literal) within = value-grows _
   form-grows (form.Text place text) within = value-grows _
@@ -244,8 +270,10 @@ Growing e = (within : Within) → Grows ((expression_image e).made within)
 grows-expression : (e : Expression) → Growing e
 grows-expression = ind-Expression Growing (λ x y is.
     subst (λ z. Growing (roll-Expression z)) is
-    (subst (λ (image : ExpressionImage). (within : Within) → Grows (image.made within)) (sym (fold-roll-Expression ExpressionImage image_layer (map-Expression ((e : Expression) × Growing e) Expression (λ e. e.0) y)))
-    (subst (λ z. (within : Within) → Grows ((form_image same_image z).made within)) (sym (mapped-twice expression_image (λ (e : (e : Expression) × Growing e). e.0) y.form))
+    (subst (λ (image : ExpressionImage). (within : Within) → Grows (image.made within))
+    (sym (fold-roll-Expression ExpressionImage image_layer (map-Expression ((e : Expression) × Growing e) Expression (λ e. e.0) y)))
+    (subst (λ z. (within : Within) → Grows ((form_image same_image z).made within))
+    (sym (mapped-twice expression_image (λ (e : (e : Expression) × Growing e). e.0) y.form))
     (form-grows (λ (e : (e : Expression) × Growing e). expression_image e.0) (λ e. e.1) y.form))))
 
 pub expression-grows : (e : Expression) (within : Within) → Grows (expression_made e within)

@@ -49,14 +49,24 @@ use Rattle.ada_image.specs.declared.making.Lists.{Lists}
 use Rattle.ada_image.specs.declared.making.Within.{Within}
 use Rattle.ada_image.specs.Making.{action as action_made, Making, ◌>>=◌, pure, value_put, action_put, first_given}
 use Rattle.ada_image.specs.Layout.{is_kept, is_thing, subtype_is}
-use Rattle.ada_image.specs.ImageOfExpressions.{expression_made, signs_in, signs_if, object_named, first_argument, actuals_for, index_made, variable_made, optional_value}
-use Rattle.ada_image.specs.ImageOfCalls.{FunctionCall, function_call, target_made, variable_in_form, variable_in, in_made, out_made, in_out_made, mode_made, thing_actual, actual_made, actuals_made, names_of, arguments_made, callee_of, owner_of_entry, call_put, entry_call_put, function_call_put, value_or_none, image_piece, image_made, piece_in_form, piece_made, joined_made, all_joined, pieces_in_form, pieces_made, put_line_put, not_built}
-use Rattle.ada_image.specs.ImageOfProcedures.{second_of, third_of, thing_of, moment_of, is_in_time, setting_with, variable_of, handler_of, setting_made, set_event_put, set_timer_put, cancel_put, budget_put, task_put, values_put, procedure_with, procedure_put}
+use Rattle.ada_image.specs.ImageOfExpressions.{expression_made, signs_in, signs_if, object_named, first_argument}
+use Rattle.ada_image.specs.ImageOfExpressions.{actuals_for, index_made, variable_made, optional_value}
+use Rattle.ada_image.specs.ImageOfCalls.{FunctionCall, function_call, target_made, variable_in_form, variable_in, in_made, out_made, in_out_made}
+use Rattle.ada_image.specs.ImageOfCalls.{mode_made, thing_actual, actual_made, actuals_made, names_of, arguments_made, callee_of, owner_of_entry}
+use Rattle.ada_image.specs.ImageOfCalls.{call_put, entry_call_put, function_call_put, value_or_none, image_piece, image_made, piece_in_form}
+use Rattle.ada_image.specs.ImageOfCalls.{piece_made, joined_made, all_joined, pieces_in_form, pieces_made, put_line_put, not_built}
+use Rattle.ada_image.specs.ImageOfProcedures.{second_of, third_of, thing_of, moment_of, is_in_time, setting_with, variable_of, handler_of, setting_made}
+use Rattle.ada_image.specs.ImageOfProcedures.{set_event_put, set_timer_put, cancel_put, budget_put, task_put, values_put, procedure_with, procedure_put}
 use Rattle.ada_image.specs.CallStatements.{entity_call_put, item_call_put, denoted_call_put, signs_in_actuals, call_statement_put}
-use Rattle.ada_image.specs.ImageOfStatements.{array_assigned, controlled_assigned, value_assigned, assigned_whole, assigned, assignment_put, delay_form, delay_put, no_function, value_returned, return_put, raise_put, loop_left, loop_statement, exit_put, abort_put, requeue_put}
-use Rattle.ada_image.specs.ImageOfDeclarations.{number_declared, kind_declared, subtype_declared_as, function_call_if, initialize_if, object_declaration_put, object_elaborated, object_put, objects_put, single_put, declaration_put, declarations_put, activation_put, end_of_activation_put}
+use Rattle.ada_image.specs.ImageOfStatements.{array_assigned, controlled_assigned, value_assigned, assigned_whole, assigned}
+use Rattle.ada_image.specs.ImageOfStatements.{assignment_put, delay_form, delay_put, no_function, value_returned, return_put}
+use Rattle.ada_image.specs.ImageOfStatements.{raise_put, loop_left, loop_statement, exit_put, abort_put, requeue_put}
+use Rattle.ada_image.specs.ImageOfDeclarations.{number_declared, kind_declared, subtype_declared_as, function_call_if, initialize_if}
+use Rattle.ada_image.specs.ImageOfDeclarations.{object_declaration_put, object_elaborated, object_put, objects_put, single_put}
+use Rattle.ada_image.specs.ImageOfDeclarations.{declaration_put, declarations_put, activation_put, end_of_activation_put}
 use Rattle.ada_image.specs.ImageOfUnits.{outermost}
-use Rattle.image_laws.specs.ActionsOfText.{one_if, object_actions, name_actions, names_actions, single_actions, declaration_actions, declarations_actions, activation_actions}
+use Rattle.image_laws.specs.ActionsOfText.{one_if, object_actions, name_actions, names_actions, single_actions}
+use Rattle.image_laws.specs.ActionsOfText.{declaration_actions, declarations_actions, activation_actions}
 use Rattle.image_laws.proofs.Images.Growing.{expression-grows}
 
 -- no scope begins, and there are so many actions more
@@ -91,7 +101,10 @@ unfolding action_put
 action-keeps f signs next = record { firsts = λ l. refl; actions = λ l. let x = length-append l.statements (action_made f signs next ∷ []) in omega arith }
 
 pub expression-keeps : (e : Expression) (within : Within) → Keeps (expression_made e within)
-expression-keeps e within = record { firsts = λ l. (expression-grows e within l).1; actions = λ l. ap (λ ss. length ss) (expression-grows e within l).2 ∙ no-more l }
+expression-keeps e within = record {
+  firsts = λ l. (expression-grows e within l).1;
+  actions = λ l. ap (λ ss. length ss) (expression-grows e within l).2 ∙ no-more l;
+}
 
 module _ (within : Within) where
   -- ---- values, variables and actuals
@@ -99,7 +112,9 @@ module _ (within : Within) where
   target-keeps : (name : Name) (index : Option Expression) → Keeps (target_made within name index)
   unfolding target_made variable_made index_made
   target-keeps name None = record { firsts = λ l. refl; actions = no-more }
-  target-keeps name (Some i) = keeps-then (expression_made i within) (λ x. pure {X = VariableName} (record { object = object_named within name; index = Some x })) (expression-keeps i within) (λ x. keeps-pure _)
+  target-keeps name (Some i) =
+      keeps-then (expression_made i within) (λ x. pure {X = VariableName} (record { object = object_named within name; index = Some x }))
+      (expression-keeps i within) (λ x. keeps-pure _)
 
   variable-form-keeps : (x : ExpressionForm Expression) → Keeps (variable_in_form within x)
   unfolding variable_in_form
@@ -165,13 +180,16 @@ module _ (within : Within) where
   call-keeps : (c : FunctionCall) (d : Destination) (signs : ℕ) (next : Option StatementNo) → Adds (function_call_put within c d signs next) 1
   unfolding function_call_put call_put
   call-keeps c d signs next =
-      keeps-then (arguments_made within c.formals c.arguments) (λ xs. action_put (action.Call (callee_of within c.name c.number c.unit) xs d) signs next) (arguments-keep c.formals c.arguments) (λ xs. action-keeps _ signs next)
+      keeps-then (arguments_made within c.formals c.arguments) (λ xs. action_put (action.Call (callee_of within c.name c.number c.unit) xs d) signs next)
+      (arguments-keep c.formals c.arguments) (λ xs. action-keeps _ signs next)
 
   -- ---- texts
 
   image-keeps : (name : Name) (xs : List (Argument Expression)) → Keeps (image_made within name xs)
   unfolding image_made
-  image-keeps name xs = keeps-then (value_or_none within (first_argument xs)) (λ e. pure (image_piece e (subtype_of_name within.names name) ∷ [])) (value-keeps (first_argument xs)) (λ e. keeps-pure _)
+  image-keeps name xs =
+      keeps-then (value_or_none within (first_argument xs)) (λ e. pure (image_piece e (subtype_of_name within.names name) ∷ []))
+      (value-keeps (first_argument xs)) (λ e. keeps-pure _)
 
   piece-form-keeps : (x : ExpressionForm Expression) → Keeps (piece_in_form within x)
   unfolding piece_in_form
@@ -204,7 +222,8 @@ module _ (within : Within) where
   text-form-keeps (form.Relational left place operator right) = record { firsts = λ l. refl; actions = no-more }
   text-form-keeps (form.Adding first others) =
       keeps-then (piece_made within first) (λ one. joined_made within (others.first ∷ others.others) >>= (λ rest. pure (one ++ rest))) (piece-keeps first)
-      (λ one. keeps-then (joined_made within (others.first ∷ others.others)) (λ rest. pure (one ++ rest)) (joined-keeps (others.first ∷ others.others)) (λ rest. keeps-pure _))
+      (λ one. keeps-then (joined_made within (others.first ∷ others.others)) (λ rest. pure (one ++ rest)) (joined-keeps (others.first ∷ others.others))
+      (λ rest. keeps-pure _))
   text-form-keeps (form.Signed place s operand) = record { firsts = λ l. refl; actions = no-more }
   text-form-keeps (form.Multiplying first others) = record { firsts = λ l. refl; actions = no-more }
   text-form-keeps (form.Highest place operator operand) = record { firsts = λ l. refl; actions = no-more }
@@ -225,34 +244,44 @@ module _ (within : Within) where
     line-keeps : (es : List (Option Expression)) → Adds (put_line_put within es signs next) 1
     unfolding put_line_put
     line-keeps [] = action-keeps _ signs next
-    line-keeps (e ∷ es) = keeps-then (pieces_made within e) (λ pieces. action_put (action.PutLine pieces) signs next) (text-keeps e) (λ pieces. action-keeps _ signs next)
+    line-keeps (e ∷ es) =
+        keeps-then (pieces_made within e) (λ pieces. action_put (action.PutLine pieces) signs next) (text-keeps e) (λ pieces. action-keeps _ signs next)
 
     set-keeps : (f : DeclNo → Setting → Option HandlerName → StatementForm) (xs : List (Argument Expression)) (es : List (Option Expression))
         → Adds (setting_made within xs >>= (λ s. action_put (f (thing_of within (first_given es)) s (handler_of within (third_of es))) signs next)) 1
     unfolding setting_made
     set-keeps f xs es =
-        keeps-then (value_or_none within (moment_of xs)) (λ e. action_put (f (thing_of within (first_given es)) (setting_with (is_in_time within xs) e) (handler_of within (third_of es))) signs next)
+        keeps-then (value_or_none within (moment_of xs))
+        (λ e. action_put (f (thing_of within (first_given es)) (setting_with (is_in_time within xs) e) (handler_of within (third_of es))) signs next)
         (value-keeps (moment_of xs)) (λ e. action-keeps _ signs next)
 
     cancel-keeps : (f : DeclNo → VariableName → StatementForm) (es : List (Option Expression)) → Adds (cancel_put f within es signs next) 1
     unfolding cancel_put
-    cancel-keeps f es = keeps-then (variable_of within (second_of es)) (λ v. action_put (f (thing_of within (first_given es)) v) signs next) (variable-of-keeps (second_of es)) (λ v. action-keeps _ signs next)
+    cancel-keeps f es =
+        keeps-then (variable_of within (second_of es)) (λ v. action_put (f (thing_of within (first_given es)) v) signs next) (variable-of-keeps (second_of es))
+        (λ v. action-keeps _ signs next)
 
     budget-keeps : (f : DeclNo → ExprNo → StatementForm) (es : List (Option Expression)) → Adds (budget_put f within es signs next) 1
     unfolding budget_put
-    budget-keeps f es = keeps-then (value_or_none within (second_of es)) (λ e. action_put (f (thing_of within (first_given es)) e) signs next) (value-keeps (second_of es)) (λ e. action-keeps _ signs next)
+    budget-keeps f es =
+        keeps-then (value_or_none within (second_of es)) (λ e. action_put (f (thing_of within (first_given es)) e) signs next) (value-keeps (second_of es))
+        (λ e. action-keeps _ signs next)
 
     task-keeps : (f : ExprNo → Option ExprNo → StatementForm) (es : List (Option Expression)) → Adds (task_put f within es signs next) 1
     unfolding task_put
     task-keeps f es =
-        keeps-then (value_or_none within (first_given es)) (λ e. optional_value within (second_of es) >>= (λ t. action_put (f e t) signs next)) (value-keeps (first_given es))
-        (λ e. keeps-then (optional_value within (second_of es)) (λ t. action_put (f e t) signs next) (optional-keeps (second_of es)) (λ t. action-keeps _ signs next))
+        keeps-then (value_or_none within (first_given es)) (λ e. optional_value within (second_of es) >>= (λ t. action_put (f e t) signs next))
+        (value-keeps (first_given es))
+        (λ e. keeps-then (optional_value within (second_of es)) (λ t. action_put (f e t) signs next) (optional-keeps (second_of es))
+        (λ t. action-keeps _ signs next))
 
     values-keep : (f : ExprNo → ExprNo → StatementForm) (es : List (Option Expression)) → Adds (values_put f within es signs next) 1
     unfolding values_put
     values-keep f es =
-        keeps-then (value_or_none within (first_given es)) (λ a. value_or_none within (second_of es) >>= (λ b. action_put (f a b) signs next)) (value-keeps (first_given es))
-        (λ a. keeps-then (value_or_none within (second_of es)) (λ b. action_put (f a b) signs next) (value-keeps (second_of es)) (λ b. action-keeps _ signs next))
+        keeps-then (value_or_none within (first_given es)) (λ a. value_or_none within (second_of es) >>= (λ b. action_put (f a b) signs next))
+        (value-keeps (first_given es))
+        (λ a.
+        keeps-then (value_or_none within (second_of es)) (λ b. action_put (f a b) signs next) (value-keeps (second_of es)) (λ b. action-keeps _ signs next))
 
     procedure-keeps : (o : Operation) (xs : List (Argument Expression)) (es : List (Option Expression)) → Adds (procedure_with within o xs es signs next) 1
     unfolding procedure_with set_event_put set_timer_put
@@ -288,7 +317,8 @@ module _ (within : Within) where
     procedure-keeps operations.DelayUntilAndSetDeadline xs es = values-keep action.DelayUntilAndSetDeadline es
     procedure-keeps operations.PortValue xs es = action-keeps _ _ next
 
-    entity-keeps : (name : Name) (xs : List (Argument Expression)) (k : Option EntityKind) → Adds (unwrap_or (option_map (λ kind. entity_call_put within name xs kind signs next) k) (not_built next)) 1
+    entity-keeps : (name : Name) (xs : List (Argument Expression)) (k : Option EntityKind)
+        → Adds (unwrap_or (option_map (λ kind. entity_call_put within name xs kind signs next) k) (not_built next)) 1
     unfolding entity_call_put entry_call_put call_put
     entity-keeps name xs None = action-keeps _ _ next
     entity-keeps name xs (Some entity.Package) = action-keeps _ _ next
@@ -301,9 +331,11 @@ module _ (within : Within) where
     entity-keeps name xs (Some (entity.Component s owner declaration)) = action-keeps _ _ next
     entity-keeps name xs (Some (entity.Exception declaration)) = action-keeps _ _ next
     entity-keeps name xs (Some (entity.Subprogram number is_function specified formals unit)) =
-        keeps-then (arguments_made within formals xs) (λ ys. action_put (action.Call (callee_of within name number unit) ys destination.Nowhere) signs next) (arguments-keep formals xs) (λ ys. action-keeps _ signs next)
+        keeps-then (arguments_made within formals xs) (λ ys. action_put (action.Call (callee_of within name number unit) ys destination.Nowhere) signs next)
+        (arguments-keep formals xs) (λ ys. action-keeps _ signs next)
     entity-keeps name xs (Some (entity.Entry number unit formals)) =
-        keeps-then (arguments_made within formals xs) (λ ys. action_put (action.EntryCall number (owner_of_entry within name unit) ys) signs next) (arguments-keep formals xs) (λ ys. action-keeps _ signs next)
+        keeps-then (arguments_made within formals xs) (λ ys. action_put (action.EntryCall number (owner_of_entry within name unit) ys) signs next)
+        (arguments-keep formals xs) (λ ys. action-keeps _ signs next)
     entity-keeps name xs (Some entity.Label) = action-keeps _ _ next
 
     item-keeps : (xs : List (Argument Expression)) (item : Predefined) → Adds (item_call_put within item xs signs next) 1
@@ -330,13 +362,17 @@ module _ (within : Within) where
   value-assigned-keeps : (a : Assignment) (c : Option FunctionCall) (signs : ℕ) (next : Option StatementNo) → Adds (value_assigned within a c signs next) 1
   unfolding value_assigned
   value-assigned-keeps a None signs next =
-      keeps-then (target_made within a.target a.index) (λ t. expression_made a.value within >>= (λ v. action_put (action.Assign t v) signs next)) (target-keeps a.target a.index)
-      (λ t. keeps-then (expression_made a.value within) (λ v. action_put (action.Assign t v) signs next) (expression-keeps a.value within) (λ v. action-keeps _ signs next))
+      keeps-then (target_made within a.target a.index) (λ t. expression_made a.value within >>= (λ v. action_put (action.Assign t v) signs next))
+      (target-keeps a.target a.index)
+      (λ t. keeps-then (expression_made a.value within) (λ v. action_put (action.Assign t v) signs next) (expression-keeps a.value within)
+      (λ v. action-keeps _ signs next))
   value-assigned-keeps a (Some c) signs next =
-      keeps-then (target_made within a.target a.index) (λ t. function_call_put within c (destination.Variable t) signs next) (target-keeps a.target a.index) (λ t. call-keeps c (destination.Variable t) signs next)
+      keeps-then (target_made within a.target a.index) (λ t. function_call_put within c (destination.Variable t) signs next) (target-keeps a.target a.index)
+      (λ t. call-keeps c (destination.Variable t) signs next)
 
   whole-assigned-keeps : (kept array : Bool) (a : Assignment) (signs : ℕ) (next : Option StatementNo)
-      → Adds (cond kept (controlled_assigned within a next) (cond array (array_assigned within a signs next) (value_assigned within a (function_call within a.value) signs next))) 1
+      → Adds (cond kept (controlled_assigned within a next)
+      (cond array (array_assigned within a signs next) (value_assigned within a (function_call within a.value) signs next))) 1
   unfolding controlled_assigned array_assigned
   whole-assigned-keeps true array a signs next = action-keeps _ 0 next
   whole-assigned-keeps false true a signs next = action-keeps _ signs next
@@ -344,7 +380,9 @@ module _ (within : Within) where
 
   assigned-keeps : (a : Assignment) (index : Option Expression) (signs : ℕ) (next : Option StatementNo) → Adds (assigned within a index signs next) 1
   unfolding assigned assigned_whole
-  assigned-keeps a None signs next = whole-assigned-keeps (subtype_is is_kept (subtype_of_name within.names a.target)) (subtype_is is_array_type (subtype_of_name within.names a.target)) a signs next
+  assigned-keeps a None signs next =
+      whole-assigned-keeps (subtype_is is_kept (subtype_of_name within.names a.target))
+      (subtype_is is_array_type (subtype_of_name within.names a.target)) a signs next
   assigned-keeps a (Some i) signs next = value-assigned-keeps a (function_call within a.value) signs next
 
   pub assignment-keeps : (a : Assignment) (next : Option StatementNo) → Adds (assignment_put within a next) 1
@@ -353,11 +391,15 @@ module _ (within : Within) where
 
   pub delay-keeps : (d : Delay) (next : Option StatementNo) → Adds (delay_put within d next) 1
   unfolding delay_put
-  delay-keeps d next = keeps-then (expression_made d.value within) (λ e. action_put (delay_form d.until e) (signs_in within d.value) next) (expression-keeps d.value within) (λ e. action-keeps _ _ next)
+  delay-keeps d next =
+      keeps-then (expression_made d.value within) (λ e. action_put (delay_form d.until e) (signs_in within d.value) next) (expression-keeps d.value within)
+      (λ e. action-keeps _ _ next)
 
   returned-keeps : (f : SubprogramNo) (e : Expression) (c : Option FunctionCall) (next : Option StatementNo) → Adds (value_returned within f e c next) 1
   unfolding value_returned
-  returned-keeps f e None next = keeps-then (expression_made e within) (λ v. action_put (action.ReturnValue f v) (signs_in within e) next) (expression-keeps e within) (λ v. action-keeps _ _ next)
+  returned-keeps f e None next =
+      keeps-then (expression_made e within) (λ v. action_put (action.ReturnValue f v) (signs_in within e) next) (expression-keeps e within)
+      (λ v. action-keeps _ _ next)
   returned-keeps f e (Some c) next = call-keeps c (destination.Return f) (signs_in within e) next
 
   pub return-keeps : (e : Option Expression) (next : Option StatementNo) → Adds (return_put within e next) 1
@@ -373,7 +415,9 @@ module _ (within : Within) where
   pub exit-keeps : (e : Exit) (next : Option StatementNo) → Adds (exit_put within e next) 1
   unfolding exit_put
   exit-keeps e next =
-      keeps-then (optional_value within e.condition) (λ c. action_put (action.Exit c (loop_statement (loop_left within e.loop_name))) (signs_if within e.condition) next) (condition-keeps e.condition) (λ c. action-keeps _ _ next)
+      keeps-then (optional_value within e.condition)
+      (λ c. action_put (action.Exit c (loop_statement (loop_left within e.loop_name))) (signs_if within e.condition) next) (condition-keeps e.condition)
+      (λ c. action-keeps _ _ next)
 
   pub abort-keeps : (tasks : OneOrMore Name) (next : Option StatementNo) → Adds (abort_put within tasks next) 1
   unfolding abort_put
@@ -390,19 +434,26 @@ module _ (within : Within) where
   initialize-keeps true d next = action-keeps _ 0 next
   initialize-keeps false d next = keeps-pure next
 
-  declare-keeps : (d : DeclNo) (s : Option Subtype) (c : Option FunctionCall) (signs : ℕ) (next : Option StatementNo) → Adds (object_declaration_put within d s c signs next) 1
+  declare-keeps : (d : DeclNo) (s : Option Subtype) (c : Option FunctionCall) (signs : ℕ) (next : Option StatementNo)
+      → Adds (object_declaration_put within d s c signs next) 1
   unfolding object_declaration_put
   declare-keeps d s None signs next = action-keeps _ _ next
   declare-keeps d s (Some c) signs next = call-keeps c (destination.Declaration d) signs next
 
-  elaborated-keeps : (d : DeclNo) (s : Option Subtype) (initial : Option Expression) (next : Option StatementNo) → Adds (object_elaborated within d s initial next) (1 + one_if (subtype_is is_controlled_type s))
+  elaborated-keeps : (d : DeclNo) (s : Option Subtype) (initial : Option Expression) (next : Option StatementNo)
+      → Adds (object_elaborated within d s initial next) (1 + one_if (subtype_is is_controlled_type s))
   unfolding object_elaborated
   elaborated-keeps d s initial next =
-      adds-then (initialize_if (subtype_is is_controlled_type s) d next) (λ behind. object_declaration_put within d s (function_call_if within initial) (signs_if within initial) behind) (one_if (subtype_is is_controlled_type s)) 1
-      (initialize-keeps (subtype_is is_controlled_type s) d next) (λ behind. declare-keeps d s (function_call_if within initial) (signs_if within initial) behind)
+      adds-then (initialize_if (subtype_is is_controlled_type s) d next)
+      (λ behind. object_declaration_put within d s (function_call_if within initial) (signs_if within initial) behind)
+      (one_if (subtype_is is_controlled_type s)) 1
+      (initialize-keeps (subtype_is is_controlled_type s) d next)
+      (λ behind. declare-keeps d s (function_call_if within initial) (signs_if within initial) behind)
 
   object-keeps : (task : Bool) (part : ℕ) (i : Identifier) (s : Option Subtype) (initial : Option Expression) (next : Option StatementNo)
-      → Adds (cond task (action_put (action.CreateTask (number_declared within i) part) 0 next) (object_elaborated within (number_declared within i) s initial next)) (cond task 1 (1 + one_if (subtype_is is_controlled_type s)))
+      → Adds (cond task (action_put (action.CreateTask (number_declared within i) part) 0 next)
+      (object_elaborated within (number_declared within i) s initial next))
+      (cond task 1 (1 + one_if (subtype_is is_controlled_type s)))
   object-keeps true part i s initial next = action-keeps _ 0 next
   object-keeps false part i s initial next = elaborated-keeps (number_declared within i) s initial next
 
@@ -411,24 +462,32 @@ module _ (within : Within) where
   unfolding subtype_declared_as kind_declared
   subtype-same i = refl
 
-  name-keeps : (part : ℕ) (i : Identifier) (initial : Option Expression) (next : Option StatementNo) → Adds (object_put within part initial i next) (name_actions i within.names)
+  name-keeps : (part : ℕ) (i : Identifier) (initial : Option Expression) (next : Option StatementNo)
+      → Adds (object_put within part initial i next) (name_actions i within.names)
   unfolding object_put
   name-keeps part i initial next =
-      subst (λ s. Adds (cond (subtype_is is_task_type (subtype_declared_as within i)) (action_put (action.CreateTask (number_declared within i) part) 0 next) (object_elaborated within (number_declared within i) (subtype_declared_as within i) initial next)) (object_actions s))
+      subst (λ s. Adds
+      (cond (subtype_is is_task_type (subtype_declared_as within i)) (action_put (action.CreateTask (number_declared within i) part) 0 next)
+      (object_elaborated within (number_declared within i) (subtype_declared_as within i) initial next))
+      (object_actions s))
       (subtype-same i) (object-keeps (subtype_is is_task_type (subtype_declared_as within i)) part i (subtype_declared_as within i) initial next)
 
-  objects-keep : (part : ℕ) (initial : Option Expression) (is : List Identifier) (next : Option StatementNo) → Adds (objects_put within part initial is next) (names_actions is within.names)
+  objects-keep : (part : ℕ) (initial : Option Expression) (is : List Identifier) (next : Option StatementNo)
+      → Adds (objects_put within part initial is next) (names_actions is within.names)
   unfolding objects_put
   objects-keep part initial [] next = keeps-pure next
   objects-keep part initial (i ∷ is) next =
-      adds-then (objects_put within part initial is next) (λ later. object_put within part initial i later) (names_actions is within.names) (name_actions i within.names) (objects-keep part initial is next) (λ later. name-keeps part i initial later)
+      adds-then (objects_put within part initial is next) (λ later. object_put within part initial i later) (names_actions is within.names)
+      (name_actions i within.names) (objects-keep part initial is next) (λ later. name-keeps part i initial later)
 
-  single-keeps : (part : ℕ) (is_type : Bool) (i : Identifier) (next : Option StatementNo) → Adds (single_put within part is_type i next) (single_actions is_type i within.names)
+  single-keeps : (part : ℕ) (is_type : Bool) (i : Identifier) (next : Option StatementNo)
+      → Adds (single_put within part is_type i next) (single_actions is_type i within.names)
   unfolding single_put
   single-keeps part true i next = keeps-pure next
   single-keeps part false i next = name-keeps part i None next
 
-  declaration-keeps : {Q : Type 0} (part : ℕ) (d : Declaration Q) (next : Option StatementNo) → Adds (declaration_put within part d next) (declaration_actions d within.names)
+  declaration-keeps : {Q : Type 0} (part : ℕ) (d : Declaration Q) (next : Option StatementNo)
+      → Adds (declaration_put within part d next) (declaration_actions d within.names)
   unfolding declaration_put
   declaration-keeps part (declaration.Object o) next = objects-keep part o.initial (all_of o.names) next
   declaration-keeps part (declaration.Type t) next = keeps-pure next
@@ -442,11 +501,13 @@ module _ (within : Within) where
   declaration-keeps part (declaration.ProtectedBody x) next = keeps-pure next
   declaration-keeps part (declaration.Use place name) next = keeps-pure next
 
-  pub declarations-keep : {Q : Type 0} (part : ℕ) (ds : List (Declaration Q)) (next : Option StatementNo) → Adds (declarations_put within part ds next) (declarations_actions ds within.names)
+  pub declarations-keep : {Q : Type 0} (part : ℕ) (ds : List (Declaration Q)) (next : Option StatementNo)
+      → Adds (declarations_put within part ds next) (declarations_actions ds within.names)
   unfolding declarations_put
   declarations-keep part [] next = keeps-pure next
   declarations-keep part (d ∷ ds) next =
-      adds-then (declarations_put within part ds next) (λ later. declaration_put within part d later) (declarations_actions ds within.names) (declaration_actions d within.names) (declarations-keep part ds next) (λ later. declaration-keeps part d later)
+      adds-then (declarations_put within part ds next) (λ later. declaration_put within part d later) (declarations_actions ds within.names)
+      (declaration_actions d within.names) (declarations-keep part ds next) (λ later. declaration-keeps part d later)
 
 pub activation-keeps : (part : Option ℕ) (next : Option StatementNo) → Adds (activation_put part next) (activation_actions part)
 unfolding activation_put

@@ -22,8 +22,10 @@ use Rattle.ada_regions.specs.Statics.{subtype_of_name}
 use Rattle.ada_image.specs.declared.making.Within.{Within}
 use Rattle.ada_image.specs.Making.{◌>>=◌, pure}
 use Rattle.ada_image.specs.ImageOfExpressions.{first_argument}
-use Rattle.ada_image.specs.ImageOfCalls.{value_or_none, piece_of_type, image_piece, image_made, piece_in_form, piece_made, joined_made, all_joined, pieces_in_form, pieces_made}
-use Rattle.ada_image.specs.ReadStatements.{is_whole_piece, is_truth_piece, is_literal_piece, terms_of, joined, value_stands_if, piece_stands_in_form, pieces_stand, text_stands}
+use Rattle.ada_image.specs.ImageOfCalls.{value_or_none, piece_of_type, image_piece, image_made, piece_in_form}
+use Rattle.ada_image.specs.ImageOfCalls.{piece_made, joined_made, all_joined, pieces_in_form, pieces_made}
+use Rattle.ada_image.specs.ReadStatements.{is_whole_piece, is_truth_piece, is_literal_piece, terms_of, joined}
+use Rattle.ada_image.specs.ReadStatements.{value_stands_if, piece_stands_in_form, pieces_stand, text_stands}
 use Rattle.ada_image.specs.BuiltStatements.{value_there, piece_form_built, piece_built, pieces_built, text_form_built, text_built}
 use Rattle.image_laws.proofs.Images.Steps.{Step, step-pure, step-so, step-then}
 use Rattle.image_laws.proofs.Images.Values.{same-number}
@@ -31,13 +33,17 @@ use Rattle.image_laws.proofs.Images.Actuals.{value-step}
 
 -- ---- the piece of an Image
 
-module _ (p : Image) (within : Within) (name : Name) (a : Option AttributeDesignator) (xs : List (Argument Expression)) (e : ExprNo) (stands : value_stands_if p within (first_argument xs) e ≡ true) where
-  of-type : (s : Subtype) (t : AdaType) → s.of_type ≡ t → subtype_of_name within.names name ≡ Some s → piece_stands_in_form p within (form.Named name a xs) (piece_of_type e t) ≡ true
+module _ (p : Image) (within : Within) (name : Name) (a : Option AttributeDesignator) (xs : List (Argument Expression)) (e : ExprNo)
+    (stands : value_stands_if p within (first_argument xs) e ≡ true) where
+  of-type : (s : Subtype) (t : AdaType) → s.of_type ≡ t → subtype_of_name within.names name ≡ Some s
+      → piece_stands_in_form p within (form.Named name a xs) (piece_of_type e t) ≡ true
   unfolding image_piece piece_of_type
   of-type s types.Integer is n = and_from _ _ stands (ap (λ x. is_whole_piece (image_piece e x)) n ∙ ap (λ t. is_whole_piece (piece_of_type e t)) is)
   of-type s types.Boolean is n = and_from _ _ stands (ap (λ x. is_truth_piece (image_piece e x)) n ∙ ap (λ t. is_truth_piece (piece_of_type e t)) is)
   of-type s types.Duration is n = and_from _ _ stands (ap (λ x. is_whole_piece (image_piece e x)) n ∙ ap (λ t. is_whole_piece (piece_of_type e t)) is)
-  of-type s (types.Enumeration number) is n = and_from _ _ stands (ap (λ x. is_literal_piece number.0 (image_piece e x)) n ∙ ap (λ t. is_literal_piece number.0 (piece_of_type e t)) is ∙ same-number number.0)
+  of-type s (types.Enumeration number) is n =
+      and_from _ _ stands
+      (ap (λ x. is_literal_piece number.0 (image_piece e x)) n ∙ ap (λ t. is_literal_piece number.0 (piece_of_type e t)) is ∙ same-number number.0)
   of-type s (types.Array y) is n = and_from _ _ stands (ap (λ x. is_whole_piece (image_piece e x)) n ∙ ap (λ t. is_whole_piece (piece_of_type e t)) is)
   of-type s types.Time is n = and_from _ _ stands (ap (λ x. is_whole_piece (image_piece e x)) n ∙ ap (λ t. is_whole_piece (piece_of_type e t)) is)
   of-type s types.TimeSpan is n = and_from _ _ stands (ap (λ x. is_whole_piece (image_piece e x)) n ∙ ap (λ t. is_whole_piece (piece_of_type e t)) is)
@@ -63,12 +69,15 @@ module _ (p : Image) (within : Within) (name : Name) (a : Option AttributeDesign
 abbrev OnePiece : Within → ExpressionForm Expression → Image → List Piece → Type 0
 OnePiece within x p one = (y : Piece) × (one ≡ y ∷ []) × (piece_stands_in_form p within x y ≡ true)
 
-image-step : (name : Name) (a : Option AttributeDesignator) (xs : List (Argument Expression)) (within : Within) → value_there (first_argument xs) within.names ≡ true
+image-step : (name : Name) (a : Option AttributeDesignator) (xs : List (Argument Expression)) (within : Within)
+    → value_there (first_argument xs) within.names ≡ true
     → Step (image_made within name xs) (OnePiece within (form.Named name a xs))
 unfolding image_made
 image-step name a xs within b =
-    step-then (value_or_none within (first_argument xs)) (λ e. pure (image_piece e (subtype_of_name within.names name) ∷ [])) (value-step (first_argument xs) within b)
-    (λ e. step-pure (image_piece e (subtype_of_name within.names name) ∷ []) _ (λ p h. (image_piece e (subtype_of_name within.names name), refl, of-subtype p within name a xs e h (subtype_of_name within.names name) refl)))
+    step-then (value_or_none within (first_argument xs)) (λ e. pure (image_piece e (subtype_of_name within.names name) ∷ []))
+    (value-step (first_argument xs) within b)
+    (λ e. step-pure (image_piece e (subtype_of_name within.names name) ∷ []) _
+    (λ p h. (image_piece e (subtype_of_name within.names name), refl, of-subtype p within name a xs e h (subtype_of_name within.names name) refl)))
 
 text-piece : (text : List ℕ) (within : Within) (place : Place) → Step (pure (piece.Text text ∷ [])) (OnePiece within (form.Text place text))
 text-piece text within place = step-pure (piece.Text text ∷ []) _ (λ p. (piece.Text text, refl, (bytes_eq-Decides text text).1 refl))
@@ -93,10 +102,12 @@ piece-step e within b = piece-form-step (out-Expression e).form within b
 
 -- ---- several joined
 
-one-more : (p : Image) (within : Within) (e : Expression) (es : List Expression) (one others : List Piece) → OnePiece within (out-Expression e).form p one → pieces_stand p within es others ≡ true → pieces_stand p within (e ∷ es) (one ++ others) ≡ true
+one-more : (p : Image) (within : Within) (e : Expression) (es : List Expression) (one others : List Piece) → OnePiece within (out-Expression e).form p one
+    → pieces_stand p within es others ≡ true → pieces_stand p within (e ∷ es) (one ++ others) ≡ true
 one-more p within e es one others h k = ap (λ ys. pieces_stand p within (e ∷ es) (ys ++ others)) h.1 ∙ and_from _ _ h.2 k
 
-joined-step : (xs : List (Addend Expression)) (within : Within) → pieces_built xs within.names ≡ true → Step (joined_made within xs) (λ p ys. pieces_stand p within (terms_of xs) ys ≡ true)
+joined-step : (xs : List (Addend Expression)) (within : Within) → pieces_built xs within.names ≡ true
+    → Step (joined_made within xs) (λ p ys. pieces_stand p within (terms_of xs) ys ≡ true)
 unfolding joined_made
 joined-step [] within b = step-pure [] _ (λ p. refl)
 joined-step (a ∷ rest) within b =
@@ -114,7 +125,8 @@ all-step first xs within b c =
     (λ others. step-pure (one ++ others) _ (λ p k h. one-more p within first (terms_of xs) one others h k)))
 
 -- a text of one piece
-alone : (p : Image) (within : Within) (e : Expression) (x : ExpressionForm Expression) → (out-Expression e).form ≡ x → (ys : List Piece) → OnePiece within x p ys → pieces_stand p within (e ∷ []) ys ≡ true
+alone : (p : Image) (within : Within) (e : Expression) (x : ExpressionForm Expression) → (out-Expression e).form ≡ x → (ys : List Piece)
+    → OnePiece within x p ys → pieces_stand p within (e ∷ []) ys ≡ true
 alone p within e x is ys h = ap (pieces_stand p within (e ∷ [])) h.1 ∙ and_from _ _ (ap (λ z. piece_stands_in_form p within z h.0) is ∙ h.2) refl
 
 text-form-step : (e : Expression) (x : ExpressionForm Expression) (within : Within) → (out-Expression e).form ≡ x → text_form_built x within.names ≡ true
@@ -130,9 +142,11 @@ text-form-step e (form.Number place literal) within is b = absurd (false≢true 
 text-form-step e (form.Text place text) within is b = step-so (λ p ys h. alone p within e (form.Text place text) is ys h) (text-piece text within place)
 text-form-step e (form.Null place) within is b = absurd (false≢true b)
 text-form-step e (form.Bracketed place inner) within is b = absurd (false≢true b)
-text-form-step e (form.Named name a arguments) within is b = step-so (λ p ys h. alone p within e (form.Named name a arguments) is ys h) (image-step name a arguments within b)
+text-form-step e (form.Named name a arguments) within is b =
+    step-so (λ p ys h. alone p within e (form.Named name a arguments) is ys h) (image-step name a arguments within b)
 
-pub text-step : (e : Option Expression) (within : Within) → text_built e within.names ≡ true → Step (pieces_made within e) (λ p ys. text_stands p within e ys ≡ true)
+pub text-step : (e : Option Expression) (within : Within) → text_built e within.names ≡ true
+    → Step (pieces_made within e) (λ p ys. text_stands p within e ys ≡ true)
 unfolding pieces_made
 text-step None within b = absurd (false≢true b)
 text-step (Some e) within b = text-form-step e (out-Expression e).form within refl b

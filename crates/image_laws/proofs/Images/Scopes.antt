@@ -39,19 +39,25 @@ module _ (n : Names) (firsts : List FirstAction) where
   unfolding scope_made
   first-made number s = refl
 
-  scope-at : (ss : List NumberedScope) (number i : ℕ) → i < length ss → (slice_index_or (scopes_made n firsts number ss) i no_scope).first ≡ and_then (first_action firsts (number + i)) (λ f. f.action)
+  scope-at : (ss : List NumberedScope) (number i : ℕ) → i < length ss
+      → (slice_index_or (scopes_made n firsts number ss) i no_scope).first ≡ and_then (first_action firsts (number + i)) (λ f. f.action)
   unfolding scopes_made
   scope-at [] number i h = absurd (omega arith)
   scope-at (s ∷ ss) number zero h = first-made number s ∙ ap (λ k. and_then (first_action firsts k) (λ f. f.action)) (omega arith)
   scope-at (s ∷ ss) number (suc i) h = scope-at ss (suc number) i (omega arith) ∙ ap (λ k. and_then (first_action firsts k) (λ f. f.action)) (omega arith)
 
-  firsts-stand : (p : Image) → p.scopes ≡ scopes_made n firsts 0 n.scopes → (fs : List FirstAction) → list_all (λ s. ltb s (length n.scopes)) (scopes_of fs) ≡ true → Found firsts fs → FirstsStand p fs
+  firsts-stand : (p : Image) → p.scopes ≡ scopes_made n firsts 0 n.scopes → (fs : List FirstAction)
+      → list_all (λ s. ltb s (length n.scopes)) (scopes_of fs) ≡ true → Found firsts fs → FirstsStand p fs
   unfolding first_action
   firsts-stand p same [] h k = tt
   firsts-stand p same (f ∷ fs) h k =
       let zero-more : 0 + f.scope ≡ f.scope = omega arith in
-      let parts = and_parts _ _ h in
-      (ap (λ ss. (slice_index_or ss f.scope no_scope).first) same ∙ scope-at n.scopes 0 f.scope (ltb-true _ _ parts.0) ∙ ap (λ i. and_then (first_action firsts i) (λ g. g.action)) zero-more ∙ ap (λ x. and_then x (λ g. g.action)) k.0, firsts-stand p same fs parts.1 k.1)
+      let parts = and_parts _ _ h in (
+        ap (λ ss. (slice_index_or ss f.scope no_scope).first) same ∙ scope-at n.scopes 0 f.scope (ltb-true _ _ parts.0)
+            ∙ ap (λ i. and_then (first_action firsts i) (λ g. g.action)) zero-more ∙ ap (λ x. and_then x (λ g. g.action)) k.0,
+        firsts-stand p same fs parts.1 k.1,
+      )
 
-pub own-firsts-stand : (n : Names) (firsts : List FirstAction) (p : Image) → p.scopes ≡ scopes_made n firsts 0 n.scopes → are_own n (map (λ f. f.scope) firsts) ≡ true → FirstsStand p firsts
+pub own-firsts-stand : (n : Names) (firsts : List FirstAction) (p : Image) → p.scopes ≡ scopes_made n firsts 0 n.scopes
+    → are_own n (map (λ f. f.scope) firsts) ≡ true → FirstsStand p firsts
 own-firsts-stand n firsts p same h = let parts = and_parts _ _ h in firsts-stand n firsts p same firsts parts.0 (found-own firsts parts.1)

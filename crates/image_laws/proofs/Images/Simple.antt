@@ -27,11 +27,17 @@ use Rattle.ada_image.specs.Making.{◌>>=◌, action_put}
 use Rattle.ada_image.specs.Layout.{is_kept, subtype_is, scope_no}
 use Rattle.ada_image.specs.ImageOfExpressions.{expression_image, expression_made, signs_in, signs_if, object_named, thing_named, thing_in, optional_value}
 use Rattle.ada_image.specs.ImageOfCalls.{FunctionCall, function_call, function_call_put, target_made, owner_of_entry}
-use Rattle.ada_image.specs.ImageOfStatements.{array_name, array_assigned, controlled_assigned, value_assigned, assigned_whole, assigned, assignment_put, delay_form, delay_put, no_function, value_returned, return_put, exception_named, raise_put, loop_left, loop_statement, exit_put, static_or_zero, choice_made, choices_made, handled_made, entry_at, abort_put, unit_of_entry, requeue_put}
+use Rattle.ada_image.specs.ImageOfStatements.{array_name, array_assigned, controlled_assigned, value_assigned, assigned_whole}
+use Rattle.ada_image.specs.ImageOfStatements.{assigned, assignment_put, delay_form, delay_put, no_function, value_returned, return_put}
+use Rattle.ada_image.specs.ImageOfStatements.{exception_named, raise_put, loop_left, loop_statement, exit_put, static_or_zero}
+use Rattle.ada_image.specs.ImageOfStatements.{choice_made, choices_made, handled_made, entry_at, abort_put, unit_of_entry, requeue_put}
 use Rattle.ada_image.specs.ReadExpressions.{same_decl, is_value}
-use Rattle.ada_image.specs.ReadStatements.{same_choice, same_handled, all_same, goes_into, is_returned, assigns_value, assigns_array, assigns_controlled, assignment_stands, delay_stands, returns_value, return_stands, raise_stands, exit_stands, abort_stands, requeue_stands}
+use Rattle.ada_image.specs.ReadStatements.{same_choice, same_handled, all_same, goes_into, is_returned, assigns_value}
+use Rattle.ada_image.specs.ReadStatements.{assigns_array, assigns_controlled, assignment_stands, delay_stands, returns_value}
+use Rattle.ada_image.specs.ReadStatements.{return_stands, raise_stands, exit_stands, abort_stands, requeue_stands}
 use Rattle.ada_image.specs.BuiltExpressions.{expression_built}
-use Rattle.ada_image.specs.BuiltStatements.{value_if_there, assigned_built, call_or_value_built, source_built, assignment_built, choice_value_built, choice_built, choices_built, source_if_there}
+use Rattle.ada_image.specs.BuiltStatements.{value_if_there, assigned_built, call_or_value_built, source_built}
+use Rattle.ada_image.specs.BuiltStatements.{assignment_built, choice_value_built, choice_built, choices_built, source_if_there}
 use Rattle.image_laws.proofs.Images.Steps.{Step, step-so, step-then, action-step}
 use Rattle.image_laws.proofs.Images.Values.{same-number, same-object}
 use Rattle.image_laws.proofs.Images.Expressions.{same-truth, expression-step}
@@ -50,14 +56,17 @@ given-or_zero (Some v) b = b
 choice-same : (c : Choice) (within : Within) → choice_built c within.names ≡ true → same_choice (choice_made within c) (choice_made within c) ≡ true
 unfolding choice_made static_or_zero
 choice-same (choice.Value v) within b = given-or_zero (static_value within.names v) b
-choice-same (choice.Range low high) within b = let parts = and_parts _ _ b in and_from _ _ (given-or_zero (static_value within.names low) parts.0) (given-or_zero (static_value within.names high) parts.1)
+choice-same (choice.Range low high) within b =
+    let parts = and_parts _ _ b in and_from _ _ (given-or_zero (static_value within.names low) parts.0) (given-or_zero (static_value within.names high) parts.1)
 choice-same (choice.Others place) within b = refl
 
-choices-alike : (cs : List Choice) (within : Within) → choices_built cs within.names ≡ true → all_same same_choice (map (choice_made within) cs) (map (choice_made within) cs) ≡ true
+choices-alike : (cs : List Choice) (within : Within) → choices_built cs within.names ≡ true
+    → all_same same_choice (map (choice_made within) cs) (map (choice_made within) cs) ≡ true
 choices-alike [] within b = refl
 choices-alike (c ∷ cs) within b = let parts = and_parts _ _ b in and_from _ _ (choice-same c within parts.0) (choices-alike cs within parts.1)
 
-pub choices-same : (cs : OneOrMore Choice) (within : Within) → choices_built (cs.first ∷ cs.others) within.names ≡ true → all_same same_choice (choices_made within cs) (choices_made within cs) ≡ true
+pub choices-same : (cs : OneOrMore Choice) (within : Within) → choices_built (cs.first ∷ cs.others) within.names ≡ true
+    → all_same same_choice (choices_made within cs) (choices_made within cs) ≡ true
 unfolding choices_made
 choices-same cs within b = choices-alike (cs.first ∷ cs.others) within b
 
@@ -75,32 +84,43 @@ module _ (a : Assignment) (signs : ℕ) (next : Option StatementNo) (within : Wi
       → Step (value_assigned within a c signs next) (λ p r. Stood p next (λ s f. assigns_value p within a c f) r)
   unfolding value_assigned
   value-assigned None i b =
-      step-then (target_made within a.target a.index) (λ t. expression_made a.value within >>= (λ v. action_put (action.Assign t v) signs next)) (target-step a.target a.index within i)
+      step-then (target_made within a.target a.index) (λ t. expression_made a.value within >>= (λ v. action_put (action.Assign t v) signs next))
+      (target-step a.target a.index within i)
       (λ t. step-then (expression_made a.value within) (λ v. action_put (action.Assign t v) signs next) (expression-step a.value within b)
       (λ v. step-so (λ p r h k l. stood (assigns_value p within a None) h (and_from _ _ l k)) (action-step (action.Assign t v) signs next)))
   value-assigned (Some c) i b =
-      step-then (target_made within a.target a.index) (λ t. function_call_put within c (destination.Variable t) signs next) (target-step a.target a.index within i)
+      step-then (target_made within a.target a.index) (λ t. function_call_put within c (destination.Variable t) signs next)
+      (target-step a.target a.index within i)
       (λ t. call-step c (destination.Variable t) (λ p. goes_into p within a.target a.index) signs next within b)
 
   source-assigned : value_if_there a.index within.names ≡ true → source_built a.value within.names ≡ true
-      → Step (value_assigned within a (function_call within a.value) signs next) (λ p r. Stood p next (λ s f. assigns_value p within a (function_call within a.value) f) r)
-  source-assigned i b = value-assigned (function_call within a.value) i (ap (λ c. call_or_value_built a.value c within.names) (sym (call-same a.value within)) ∙ b)
+      → Step (value_assigned within a (function_call within a.value) signs next)
+      (λ p r. Stood p next (λ s f. assigns_value p within a (function_call within a.value) f) r)
+  source-assigned i b =
+      value-assigned (function_call within a.value) i (ap (λ c. call_or_value_built a.value c within.names) (sym (call-same a.value within)) ∙ b)
 
   whole-assigned : (kept array : Bool) → a.index ≡ None → cond kept true (cond array true (source_built a.value within.names)) ≡ true
-      → Step (cond kept (controlled_assigned within a next) (cond array (array_assigned within a signs next) (value_assigned within a (function_call within a.value) signs next)))
-      (λ p r. Stood p next (λ s f. cond kept (assigns_controlled p within a f) (cond array (assigns_array p within a f) (assigns_value p within a (function_call within a.value) f))) r)
+      → Step (cond kept (controlled_assigned within a next)
+      (cond array (array_assigned within a signs next) (value_assigned within a (function_call within a.value) signs next)))
+      (λ p r. Stood p next
+      (λ s f.
+      cond kept (assigns_controlled p within a f) (cond array (assigns_array p within a f) (assigns_value p within a (function_call within a.value) f))) r)
   unfolding controlled_assigned array_assigned
   whole-assigned true array i b =
-      step-so (λ p r h. stood (assigns_controlled p within a) h (and_from _ _ (same-number (thing_named within a.target).0) (same-number (thing_in within (expression_image a.value).name).0)))
+      step-so (λ p r h. stood (assigns_controlled p within a) h
+      (and_from _ _ (same-number (thing_named within a.target).0) (same-number (thing_in within (expression_image a.value).name).0)))
       (action-step (action.AssignControlled (thing_named within a.target) (thing_in within (expression_image a.value).name)) 0 next)
   whole-assigned false true i b =
-      step-so (λ p r h. stood (assigns_array p within a) h (and_from _ _ (same-object (object_named within a.target)) (same-object (array_name within (expression_image a.value).name))))
+      step-so (λ p r h. stood (assigns_array p within a) h
+      (and_from _ _ (same-object (object_named within a.target)) (same-object (array_name within (expression_image a.value).name))))
       (action-step (action.AssignArray (object_named within a.target) (array_name within (expression_image a.value).name)) signs next)
   whole-assigned false false i b = source-assigned (ap (λ x. value_if_there x within.names) i) b
 
-  by-index : (index : Option Expression) → a.index ≡ index → assigned_built a index within.names ≡ true → Step (assigned within a index signs next) (λ p r. Stood p next (λ s f. assignment_stands p within a index f) r)
+  by-index : (index : Option Expression) → a.index ≡ index → assigned_built a index within.names ≡ true
+      → Step (assigned within a index signs next) (λ p r. Stood p next (λ s f. assignment_stands p within a index f) r)
   unfolding assigned assigned_whole
-  by-index None is b = whole-assigned (subtype_is is_kept (subtype_of_name within.names a.target)) (subtype_is is_array_type (subtype_of_name within.names a.target)) is b
+  by-index None is b =
+      whole-assigned (subtype_is is_kept (subtype_of_name within.names a.target)) (subtype_is is_array_type (subtype_of_name within.names a.target)) is b
   by-index (Some i) is b = let parts = and_parts _ _ b in source-assigned (ap (λ x. value_if_there x within.names) is ∙ parts.0) parts.1
 
 pub assignment-step : (a : Assignment) (next : Option StatementNo) (within : Within) → assignment_built a within.names ≡ true
@@ -111,7 +131,8 @@ assignment-step a next within b = by-index a _ next within a.index refl b
 -- ---- delays, returns and raises
 
 delay-chosen : (d : Delay) (t : Bool) → d.until ≡ t → (next : Option StatementNo) (within : Within) → expression_built d.value within.names ≡ true
-    → Step (expression_made d.value within >>= (λ e. action_put (delay_form t e) (signs_in within d.value) next)) (λ p r. Stood p next (λ s f. delay_stands p within d f) r)
+    → Step (expression_made d.value within >>= (λ e. action_put (delay_form t e) (signs_in within d.value) next))
+    (λ p r. Stood p next (λ s f. delay_stands p within d f) r)
 delay-chosen d true is next within b =
     step-then (expression_made d.value within) (λ e. action_put (action.DelayUntil e) (signs_in within d.value) next) (expression-step d.value within b)
     (λ e. step-so (λ p r h k. stood (delay_stands p within d) h (and_from _ _ is k)) (action-step (action.DelayUntil e) (signs_in within d.value) next))
@@ -119,47 +140,64 @@ delay-chosen d false is next within b =
     step-then (expression_made d.value within) (λ e. action_put (action.Delay e) (signs_in within d.value) next) (expression-step d.value within b)
     (λ e. step-so (λ p r h k. stood (delay_stands p within d) h (and_from _ _ (ap not is) k)) (action-step (action.Delay e) (signs_in within d.value) next))
 
-pub delay-step : (d : Delay) (next : Option StatementNo) (within : Within) → expression_built d.value within.names ≡ true → Step (delay_put within d next) (λ p r. Stood p next (λ s f. delay_stands p within d f) r)
+pub delay-step : (d : Delay) (next : Option StatementNo) (within : Within) → expression_built d.value within.names ≡ true
+    → Step (delay_put within d next) (λ p r. Stood p next (λ s f. delay_stands p within d f) r)
 unfolding delay_put
 delay-step d next within b = delay-chosen d d.until refl next within b
 
-returned-step : (f : SubprogramNo) (e : Expression) (c : Option FunctionCall) (next : Option StatementNo) (within : Within) → call_or_value_built e c within.names ≡ true
+returned-step : (f : SubprogramNo) (e : Expression) (c : Option FunctionCall) (next : Option StatementNo) (within : Within)
+    → call_or_value_built e c within.names ≡ true
     → Step (value_returned within f e c next) (λ p r. Stood p next (λ s x. returns_value p f within e c x) r)
 unfolding value_returned
 returned-step f e None next within b =
     step-then (expression_made e within) (λ v. action_put (action.ReturnValue f v) (signs_in within e) next) (expression-step e within b)
-    (λ v. step-so (λ p r h k. stood (returns_value p f within e None) h (and_from _ _ (same-number f.0) k)) (action-step (action.ReturnValue f v) (signs_in within e) next))
-returned-step f e (Some c) next within b = step-so (λ p r h. h (same-number f.0)) (call-step c (destination.Return f) (λ p. is_returned p f) (signs_in within e) next within b)
+    (λ v. step-so (λ p r h k. stood (returns_value p f within e None) h (and_from _ _ (same-number f.0) k))
+    (action-step (action.ReturnValue f v) (signs_in within e) next))
+returned-step f e (Some c) next within b =
+    step-so (λ p r h. h (same-number f.0)) (call-step c (destination.Return f) (λ p. is_returned p f) (signs_in within e) next within b)
 
-pub return-step : (e : Option Expression) (next : Option StatementNo) (within : Within) → source_if_there e within.names ≡ true → Step (return_put within e next) (λ p r. Stood p next (λ s f. return_stands p within e f) r)
+pub return-step : (e : Option Expression) (next : Option StatementNo) (within : Within) → source_if_there e within.names ≡ true
+    → Step (return_put within e next) (λ p r. Stood p next (λ s f. return_stands p within e f) r)
 unfolding return_put
 return-step None next within b = step-so (λ p r h. stood (return_stands p within None) h refl) (action-step action.Return 0 next)
 return-step (Some e) next within b =
-    returned-step (unwrap_or within.function no_function) e (function_call within e) next within (ap (λ c. call_or_value_built e c within.names) (sym (call-same e within)) ∙ b)
+    returned-step (unwrap_or within.function no_function) e (function_call within e) next within
+    (ap (λ c. call_or_value_built e c within.names) (sym (call-same e within)) ∙ b)
 
-pub raise-step : (name : Option Name) (next : Option StatementNo) (within : Within) → Step (raise_put within name next) (λ p r. Stood p next (λ s f. raise_stands p within name f) r)
+pub raise-step : (name : Option Name) (next : Option StatementNo) (within : Within)
+    → Step (raise_put within name next) (λ p r. Stood p next (λ s f. raise_stands p within name f) r)
 unfolding raise_put
-raise-step None next within = step-so (λ p r h. stood (raise_stands p within None) h (same-number (unwrap_or within.handling 0))) (action-step (action.RaiseAgain (scope_no (unwrap_or within.handling 0))) 0 next)
-raise-step (Some name) next within = step-so (λ p r h. stood (raise_stands p within (Some name)) h (same-number _)) (action-step (action.Raise (exception_named within name)) 0 next)
+raise-step None next within =
+    step-so (λ p r h. stood (raise_stands p within None) h (same-number (unwrap_or within.handling 0)))
+    (action-step (action.RaiseAgain (scope_no (unwrap_or within.handling 0))) 0 next)
+raise-step (Some name) next within =
+    step-so (λ p r h. stood (raise_stands p within (Some name)) h (same-number _)) (action-step (action.Raise (exception_named within name)) 0 next)
 
 -- ---- exits, aborts and requeues
 
-pub exit-step : (e : Exit) (next : Option StatementNo) (within : Within) → value_if_there e.condition within.names ≡ true → Step (exit_put within e next) (λ p r. Stood p next (λ s f. exit_stands p within e f) r)
+pub exit-step : (e : Exit) (next : Option StatementNo) (within : Within) → value_if_there e.condition within.names ≡ true
+    → Step (exit_put within e next) (λ p r. Stood p next (λ s f. exit_stands p within e f) r)
 unfolding exit_put
 exit-step e next within b =
-    step-then (optional_value within e.condition) (λ c. action_put (action.Exit c (loop_statement (loop_left within e.loop_name))) (signs_if within e.condition) next) (condition-step e.condition within b)
+    step-then (optional_value within e.condition)
+    (λ c. action_put (action.Exit c (loop_statement (loop_left within e.loop_name))) (signs_if within e.condition) next)
+    (condition-step e.condition within b)
     (λ c. step-so (λ p r h k. stood (exit_stands p within e) h (and_from _ _ k (same-number (loop_statement (loop_left within e.loop_name)).0)))
     (action-step (action.Exit c (loop_statement (loop_left within e.loop_name))) (signs_if within e.condition) next))
 
-pub abort-step : (tasks : OneOrMore Name) (next : Option StatementNo) (within : Within) → Step (abort_put within tasks next) (λ p r. Stood p next (λ s f. abort_stands p within tasks f) r)
+pub abort-step : (tasks : OneOrMore Name) (next : Option StatementNo) (within : Within)
+    → Step (abort_put within tasks next) (λ p r. Stood p next (λ s f. abort_stands p within tasks f) r)
 unfolding abort_put
 abort-step tasks next within =
-    step-so (λ p r h. stood (abort_stands p within tasks) h (all-same same_decl (λ d. same-number d.0) (thing_named within tasks.first ∷ map (thing_named within) tasks.others)))
+    step-so (λ p r h. stood (abort_stands p within tasks) h
+    (all-same same_decl (λ d. same-number d.0) (thing_named within tasks.first ∷ map (thing_named within) tasks.others)))
     (action-step (action.Abort (thing_named within tasks.first ∷ map (thing_named within) tasks.others)) 0 next)
 
-pub requeue-step : (name : Name) (with_abort : Bool) (next : Option StatementNo) (within : Within) → Step (requeue_put within name with_abort next) (λ p r. Stood p next (λ s f. requeue_stands p within name with_abort f) r)
+pub requeue-step : (name : Name) (with_abort : Bool) (next : Option StatementNo) (within : Within)
+    → Step (requeue_put within name with_abort next) (λ p r. Stood p next (λ s f. requeue_stands p within name with_abort f) r)
 unfolding requeue_put
 requeue-step name with_abort next within =
     step-so (λ p r h. stood (requeue_stands p within name with_abort) h
-    (and_from _ _ (same-number (entry_at within (last_part name).place).0) (and_from _ _ (same-entry_owner (owner_of_entry within name (unit_of_entry within name))) (same-truth with_abort))))
+    (and_from _ _ (same-number (entry_at within (last_part name).place).0)
+    (and_from _ _ (same-entry_owner (owner_of_entry within name (unit_of_entry within name))) (same-truth with_abort))))
     (action-step (action.Requeue (entry_at within (last_part name).place) (owner_of_entry within name (unit_of_entry within name)) with_abort) 0 next)

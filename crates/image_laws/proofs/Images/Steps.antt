@@ -117,7 +117,8 @@ pub record Put (form : StatementForm) (next : Option StatementNo) (p : Image) (r
   pub is : r ≡ Some at
   pub stands : Stands form next p at
 
-pub stands-as : (form : StatementForm) (signs : ℕ) (next : Option StatementNo) (p : Image) (s : StatementNo) → action_at p.statements s.0 ≡ action form signs next → Stands form next p s
+pub stands-as : (form : StatementForm) (signs : ℕ) (next : Option StatementNo) (p : Image) (s : StatementNo)
+    → action_at p.statements s.0 ≡ action form signs next → Stands form next p s
 stands-as form signs next p s e = record { form = ap (λ a. a.form) e; next = ap (λ a. a.next) e }
 
 pub action-step : (form : StatementForm) (signs : ℕ) (next : Option StatementNo) → Step (action_put form signs next) (Put form next)
@@ -134,7 +135,8 @@ action-step form signs next = record {
     at = record { 0 = length l.statements };
     is = refl;
     stands = stands-as form signs next p (record { 0 = length l.statements })
-        (h.actions (length l.statements) (omega arith) (let x = length-append l.statements (action form signs next ∷ []) in omega arith) ∙ get_or-append_seam l.statements (action form signs next) [] _);
+        (h.actions (length l.statements) (omega arith) (let x = length-append l.statements (action form signs next ∷ []) in omega arith)
+        ∙ get_or-append_seam l.statements (action form signs next) [] _);
   };
 }
 
@@ -152,14 +154,16 @@ first-step scope first = record {
 abbrev pub filled : {X : Type 0} → (StatementNo → Making X) → (StatementNo → X → StatementForm) → ℕ → Option StatementNo → Making (Option StatementNo)
 filled k form signs next = reserved >>= (λ s. k s >>= (λ x. put_at s (form s x) signs next))
 
-pub record Filled {X : Type 0} (form : StatementNo → X → StatementForm) (next : Option StatementNo) (R : StatementNo → Image → X → Type 0) (p : Image) (r : Option StatementNo) : Type 0 where
+pub record Filled {X : Type 0} (form : StatementNo → X → StatementForm) (next : Option StatementNo) (R : StatementNo → Image → X → Type 0) (p : Image)
+    (r : Option StatementNo) : Type 0 where
   pub at : StatementNo
   pub is : r ≡ Some at
   pub made : X
   pub stands : Stands (form at made) next p at
   pub reads : R at p made
 
-module _ {X : Type 0} (k : StatementNo → Making X) (form : StatementNo → X → StatementForm) (signs : ℕ) (next : Option StatementNo) (R : StatementNo → Image → X → Type 0)
+module _ {X : Type 0} (k : StatementNo → Making X) (form : StatementNo → X → StatementForm) (signs : ℕ) (next : Option StatementNo)
+    (R : StatementNo → Image → X → Type 0)
     (step : (s : StatementNo) → Step (k s) (R s)) where
   abbrev drawn : Lists → StatementNo
   drawn l = record { 0 = length l.statements }
@@ -202,11 +206,13 @@ module _ {X : Type 0} (k : StatementNo → Making X) (form : StatementNo → X �
       is = refl;
       made = (inside l).1;
       stands = stands-as _ signs next p (drawn l)
-          (h.actions (length l.statements) (omega arith) (let x = within-inside l in let y = length-set (inside l).0.statements (length l.statements) (put l) in omega arith)
+          (h.actions (length l.statements) (omega arith)
+          (let x = within-inside l in let y = length-set (inside l).0.statements (length l.statements) (put l) in omega arith)
           ∙ get_or-set_same (inside l).0.statements (length l.statements) (put l) _ (let x = within-inside l in omega arith));
       reads = (step (drawn l)).reads (begun l) p (record {
         values = h.values;
-        actions = λ i f u. h.actions i (let x = one-more l in omega arith) (let y = length-set (inside l).0.statements (length l.statements) (put l) in omega arith)
+        actions =
+            λ i f u. h.actions i (let x = one-more l in omega arith) (let y = length-set (inside l).0.statements (length l.statements) (put l) in omega arith)
             ∙ get_or-set_other (inside l).0.statements (length l.statements) i (put l) _ (behind i (length l.statements) (let x = one-more l in omega arith));
         firsts = h.firsts;
       });

@@ -12,7 +12,8 @@ use Rattle.ada_image.specs.Making.{Making, ◌>>=◌, ◌>>◌, action, reserved
 use Rattle.ada_image.specs.ReadStatements.{later_turn}
 use Rattle.image_laws.proofs.Images.Steps.{Step, Grown, Holds, Stands, stands-as, action_at}
 
-abbrev pub turns : {X Y : Type 0} → (StatementNo → StatementNo → Making X) → Making Y → (StatementNo → Y → StatementForm) → (X → StatementForm) → (X → StatementForm) → ℕ → Option StatementNo → Making (Option StatementNo)
+abbrev pub turns : {X Y : Type 0} → (StatementNo → StatementNo → Making X) → Making Y → (StatementNo → Y → StatementForm) → (X → StatementForm)
+    → (X → StatementForm) → ℕ → Option StatementNo → Making (Option StatementNo)
 turns k m form first_form later_form signs next = do
   s ← reserved
   first ← reserved
@@ -36,8 +37,10 @@ pub record Turning {X Y : Type 0} (form : StatementNo → Y → StatementForm) (
   pub reads : R at (later_turn at) p made
   pub values_read : S p values
 
-module _ {X Y : Type 0} (k : StatementNo → StatementNo → Making X) (m : Making Y) (form : StatementNo → Y → StatementForm) (first_form later_form : X → StatementForm) (signs : ℕ) (next : Option StatementNo)
-    (R : StatementNo → StatementNo → Image → X → Type 0) (S : Image → Y → Type 0) (step : (s t : StatementNo) → Step (k s t) (R s t)) (step_of_values : Step m S) where
+module _ {X Y : Type 0} (k : StatementNo → StatementNo → Making X) (m : Making Y) (form : StatementNo → Y → StatementForm)
+    (first_form later_form : X → StatementForm) (signs : ℕ) (next : Option StatementNo)
+    (R : StatementNo → StatementNo → Image → X → Type 0) (S : Image → Y → Type 0) (step : (s t : StatementNo) → Step (k s t) (R s t))
+    (step_of_values : Step m S) where
   abbrev with_one : List Action → List Action
   with_one ss = ss ++ no_statement ∷ []
 
@@ -108,13 +111,15 @@ module _ {X Y : Type 0} (k : StatementNo → StatementNo → Making X) (m : Maki
   above i j h e = omega arith
 
   -- beside s, what was there before the values
-  before-values : (l : Lists) (i : ℕ) → i ≢ length l.statements → i < length (inside l).0.statements → action_at (all_put l).statements i ≡ action_at (later_put l).statements i
+  before-values : (l : Lists) (i : ℕ) → i ≢ length l.statements → i < length (inside l).0.statements
+      → action_at (all_put l).statements i ≡ action_at (later_put l).statements i
   before-values l i other h =
       get_or-set_other (valued l).0.statements (s_of l).0 i (action (form (first_of l) (valued l).1) signs next) _ other
       ∙ (step_of_values.grows (later_put l)).same_actions i (let x = (lengths l).later_put_is in omega arith)
 
   -- beside all three, what the body made
-  of-inside : (l : Lists) (i : ℕ) → i ≢ length l.statements → i ≢ (first_of l).0 → i ≢ (later_of l).0 → i < length (inside l).0.statements → action_at (all_put l).statements i ≡ action_at (inside l).0.statements i
+  of-inside : (l : Lists) (i : ℕ) → i ≢ length l.statements → i ≢ (first_of l).0 → i ≢ (later_of l).0 → i < length (inside l).0.statements
+      → action_at (all_put l).statements i ≡ action_at (inside l).0.statements i
   of-inside l i a b c h =
       before-values l i a h ∙ get_or-set_other (first_put l).statements (later_of l).0 i (action (later_form (inside l).1) 0 next) _ c
       ∙ get_or-set_other (inside l).0.statements (first_of l).0 i (action (first_form (inside l).1) 0 next) _ b
@@ -124,7 +129,8 @@ module _ {X Y : Type 0} (k : StatementNo → StatementNo → Making X) (m : Maki
 
   at-later : (l : Lists) → action_at (all_put l).statements (later_of l).0 ≡ action (later_form (inside l).1) 0 next
   at-later l =
-      let x = (lengths l).inside_is in let y = (lengths l).later_is in let z = length-set (inside l).0.statements (first_of l).0 (action (first_form (inside l).1) 0 next) in
+      let x = (lengths l).inside_is in
+      let y = (lengths l).later_is in let z = length-set (inside l).0.statements (first_of l).0 (action (first_form (inside l).1) 0 next) in
       before-values l (later_of l).0 (above (later_of l).0 (length l.statements) (omega arith)) (omega arith)
       ∙ get_or-set_same (first_put l).statements (later_of l).0 (action (later_form (inside l).1) 0 next) _ (omega arith)
 
@@ -132,7 +138,8 @@ module _ {X Y : Type 0} (k : StatementNo → StatementNo → Making X) (m : Maki
   at-first l =
       let x = (lengths l).inside_is in let y = (lengths l).later_is in let z = (lengths l).first_is in
       before-values l (first_of l).0 (above (first_of l).0 (length l.statements) (omega arith)) (omega arith)
-      ∙ get_or-set_other (first_put l).statements (later_of l).0 (first_of l).0 (action (later_form (inside l).1) 0 next) _ (apart (first_of l).0 (later_of l).0 (omega arith))
+      ∙ get_or-set_other (first_put l).statements (later_of l).0 (first_of l).0 (action (later_form (inside l).1) 0 next) _
+      (apart (first_of l).0 (later_of l).0 (omega arith))
       ∙ get_or-set_same (inside l).0.statements (first_of l).0 (action (first_form (inside l).1) 0 next) _ (omega arith)
 
   -- ---- the step
@@ -172,7 +179,9 @@ module _ {X Y : Type 0} (k : StatementNo → StatementNo → Making X) (m : Maki
         values = (valued l).1;
         stands = stands-as _ signs next p (s_of l) (h.actions (s_of l).0 (omega arith) (omega arith) ∙ at-s l);
         first_stands = stands-as _ 0 next p (first_of l) (h.actions (first_of l).0 (omega arith) (omega arith) ∙ at-first l);
-        later_stands = subst (Stands (later_form (inside l).1) next p) (sym same) (stands-as _ 0 next p (later_of l) (h.actions (later_of l).0 (omega arith) (omega arith) ∙ at-later l));
+        later_stands =
+            subst (Stands (later_form (inside l).1) next p) (sym same)
+            (stands-as _ 0 next p (later_of l) (h.actions (later_of l).0 (omega arith) (omega arith) ∙ at-later l));
         reads = subst (λ t. R (s_of l) t p (inside l).1) (sym same) ((step (s_of l) (later_of l)).reads (begun l) p (record {
           values = λ i f. h.values i (let d = values.values in omega arith) ∙ values.same_values i f;
           actions = λ i f g. h.actions i (omega arith) (omega arith)
@@ -182,7 +191,8 @@ module _ {X Y : Type 0} (k : StatementNo → StatementNo → Making X) (m : Maki
         values_read = step_of_values.reads (later_put l) p (record {
           values = h.values;
           actions = λ i f g. h.actions i (let d = (lengths l).later_put_is in omega arith) (omega arith)
-              ∙ get_or-set_other (valued l).0.statements (s_of l).0 i (action (form (first_of l) (valued l).1) signs next) _ (above i (length l.statements) (let d = (lengths l).later_put_is in omega arith));
+              ∙ get_or-set_other (valued l).0.statements (s_of l).0 i (action (form (first_of l) (valued l).1) signs next) _
+              (above i (length l.statements) (let d = (lengths l).later_put_is in omega arith));
           firsts = h.firsts;
         });
       }

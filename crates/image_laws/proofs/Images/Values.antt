@@ -21,7 +21,8 @@ use Rattle.ada_regions.specs.Statics.{attribute_value}
 use Rattle.ada_image.specs.declared.making.Within.{Within}
 use Rattle.ada_image.specs.Making.{Making, value_put}
 use Rattle.ada_image.specs.ImageOfExpressions.{known, unary_made, binary_put, count_of, count_made, attribute_made, thing_named, kind_named}
-use Rattle.ada_image.specs.ReadExpressions.{same_object, is_value, is_known, is_known_if, is_unary, is_binary, is_thing_at, is_count_of, attribute_stands, at_number, unary_number, binary_number}
+use Rattle.ada_image.specs.ReadExpressions.{same_object, is_value, is_known, is_known_if, is_unary, is_binary, is_thing_at}
+use Rattle.ada_image.specs.ReadExpressions.{is_count_of, attribute_stands, at_number, unary_number, binary_number}
 use Rattle.ada_image.specs.BuiltExpressions.{is_given_if, is_entry, attribute_built}
 use Rattle.image_laws.proofs.Images.Steps.{Step, step-so, step-then, value-step}
 
@@ -40,18 +41,21 @@ same-object (object.Component o d) = and_from _ _ (same-number o.0) (same-number
 pub known-step : (v : Value) → is_value v v ≡ true → Step (known v) (λ p e. is_known p v (at_number p e) ≡ true)
 known-step v g = step-so (λ p e h. ap (is_known p v) h ∙ g) (value-step (valuation.Known v))
 
-pub unary-step : (operator : UnaryOperator) (m : Making ExprNo) (t : Image → ExprNo → Bool) → Step m (λ p e. t p e ≡ true) → Step (unary_made operator m) (λ p e. is_unary p operator (t p) (at_number p e) ≡ true)
+pub unary-step : (operator : UnaryOperator) (m : Making ExprNo) (t : Image → ExprNo → Bool) → Step m (λ p e. t p e ≡ true)
+    → Step (unary_made operator m) (λ p e. is_unary p operator (t p) (at_number p e) ≡ true)
 unfolding unary_made
 unary-step operator m t s =
     step-then m (λ x. value_put (valuation.Unary operator x)) s
-    (λ x. step-so (λ p e h k. ap (is_unary p operator (t p)) h ∙ and_from _ _ (same-number (unary_number operator)) k) (value-step (valuation.Unary operator x)))
+    (λ x.
+    step-so (λ p e h k. ap (is_unary p operator (t p)) h ∙ and_from _ _ (same-number (unary_number operator)) k) (value-step (valuation.Unary operator x)))
 
 pub binary-step : (operator : BinaryOperator) (left : ExprNo) (m : Making ExprNo) (l t : Image → ExprNo → Bool) → Step m (λ p e. t p e ≡ true)
     → Step (binary_put operator left m) (λ p e. l p left ≡ true → is_binary p operator (l p) (t p) (at_number p e) ≡ true)
 unfolding binary_put
 binary-step operator left m l t s =
     step-then m (λ x. value_put (valuation.Binary operator left x)) s
-    (λ x. step-so (λ p e h k b. ap (is_binary p operator (l p) (t p)) h ∙ and_from _ _ (same-number (binary_number operator)) (and_from _ _ b k)) (value-step (valuation.Binary operator left x)))
+    (λ x. step-so (λ p e h k b. ap (is_binary p operator (l p) (t p)) h ∙ and_from _ _ (same-number (binary_number operator)) (and_from _ _ b k))
+    (value-step (valuation.Binary operator left x)))
 
 pub thing-step : (d : DeclNo) → Step (value_put (valuation.Thing d)) (λ p e. is_thing_at p d (at_number p e) ≡ true)
 thing-step d = step-so (λ p e h. ap (is_thing_at p d) h ∙ same-number d.0) (value-step (valuation.Thing d))
@@ -75,10 +79,12 @@ count-step (Some (entity.LoopParameter declaration)) g = absurd (false≢true g)
 count-step (Some (entity.Component s owner declaration)) g = absurd (false≢true g)
 count-step (Some (entity.Exception declaration)) g = absurd (false≢true g)
 count-step (Some (entity.Subprogram number is_function specified formals unit)) g = absurd (false≢true g)
-count-step (Some (entity.Entry number unit formals)) g = step-so (λ p e h. ap (is_count_of p (Some (entity.Entry number unit formals))) h ∙ same-number number.0) (value-step (valuation.Count number))
+count-step (Some (entity.Entry number unit formals)) g =
+    step-so (λ p e h. ap (is_count_of p (Some (entity.Entry number unit formals))) h ∙ same-number number.0) (value-step (valuation.Count number))
 count-step (Some entity.Label) g = absurd (false≢true g)
 
-pub attribute-step : (within : Within) (name : Name) (a : Attribute) → attribute_built within.names name a ≡ true → Step (attribute_made within name a) (λ p e. attribute_stands p within name a (at_number p e) ≡ true)
+pub attribute-step : (within : Within) (name : Name) (a : Attribute) → attribute_built within.names name a ≡ true
+    → Step (attribute_made within name a) (λ p e. attribute_stands p within name a (at_number p e) ≡ true)
 unfolding attribute_made kind_named
 attribute-step within name attribute.First g = value-if (attribute_value within.names name attribute.First) g
 attribute-step within name attribute.Last g = value-if (attribute_value within.names name attribute.Last) g

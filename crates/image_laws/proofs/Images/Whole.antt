@@ -1,5 +1,6 @@
 -- The image of a source that is built reads as its text: what is made behind the actions only adds expressions.
-use Rattle.std.proofs.Common.{◌≡◌, ℕ, ◌+◌, suc, arith, Bool, true, false, cond, ◌++◌, List, [], ◌∷◌, Option, Some, None, is_some, map, length, append-nil, refl, ap, ◌∙◌}
+use Rattle.std.proofs.Common.{◌≡◌, ℕ, ◌+◌, suc, arith, Bool, true, false, cond, ◌++◌, List, [], ◌∷◌}
+use Rattle.std.proofs.Common.{Option, Some, None, is_some, map, length, append-nil, refl, ap, ◌∙◌}
 use Rattle.std.specs.Prelude.{codes}
 use Rattle.std.proofs.lemmas.Bool.{and_from, and_parts}
 use Rattle.ada_tree.specs.declared.expressions.Expression.{Expression}
@@ -27,7 +28,8 @@ use Rattle.ada_image.specs.ImageOfExpressions.{expression_image, expression_made
 use Rattle.ada_image.specs.ImageOfCalls.{function_call}
 use Rattle.ada_image.specs.ImageOfStatements.{array_name}
 use Rattle.ada_image.specs.UnitsOfImage.{aspect_value, task_unit_with, task_units_made, entry_with, entry_body_made, entries_made}
-use Rattle.ada_image.specs.ImageOfUnits.{scalar_initial, scalar_or_array, initial_of_call, initial_made, numbered_object, declaration_made, declarations_made, outermost, actions_made, all_made, program_with, program_from, program_of}
+use Rattle.ada_image.specs.ImageOfUnits.{scalar_initial, scalar_or_array, initial_of_call, initial_made, numbered_object, declaration_made}
+use Rattle.ada_image.specs.ImageOfUnits.{declarations_made, outermost, actions_made, all_made, program_with, program_from, program_of}
 use Rattle.ada_image.specs.BuiltUnits.{unit_built}
 use Rattle.image_laws.specs.OwnScopes.{are_own, is_built_with}
 use Rattle.image_laws.specs.ScopesOfText.{scopes_begun}
@@ -54,28 +56,34 @@ tasks-grow : (within : Within) (number : ℕ) (ts : List NumberedTask) → Grows
 unfolding task_units_made
 tasks-grow within number [] = grows-pure {X = List TaskUnit} []
 tasks-grow within number (t ∷ ts) =
-    grows-then (optional_value within (aspect_value (codes "relative_deadline") t.aspects)) (λ deadline. task_units_made within (suc number) ts >>= (λ others. pure (task_unit_with within.names number t deadline ∷ others)))
+    grows-then (optional_value within (aspect_value (codes "relative_deadline") t.aspects))
+    (λ deadline. task_units_made within (suc number) ts >>= (λ others. pure (task_unit_with within.names number t deadline ∷ others)))
     (deadline-grows within (aspect_value (codes "relative_deadline") t.aspects))
-    (λ deadline. grows-then (task_units_made within (suc number) ts) (λ others. pure (task_unit_with within.names number t deadline ∷ others)) (tasks-grow within (suc number) ts) (λ others. grows-pure (task_unit_with within.names number t deadline ∷ others)))
+    (λ deadline. grows-then (task_units_made within (suc number) ts) (λ others. pure (task_unit_with within.names number t deadline ∷ others))
+    (tasks-grow within (suc number) ts) (λ others. grows-pure (task_unit_with within.names number t deadline ∷ others)))
 
 barrier-grows : (within : Within) (b : Option NumberedEntryBody) → Grows (entry_body_made within b)
 unfolding entry_body_made
 barrier-grows within None = grows-pure {X = Option EntryBody} None
 barrier-grows within (Some b) =
-    grows-then (expression_made b.barrier within) (λ x. pure {X = Option EntryBody} (Some (record { barrier = x; scope = scope_no b.scope }))) (expression-grows b.barrier within) (λ x. grows-pure {X = Option EntryBody} (Some (record { barrier = x; scope = scope_no b.scope })))
+    grows-then (expression_made b.barrier within) (λ x. pure {X = Option EntryBody} (Some (record { barrier = x; scope = scope_no b.scope })))
+    (expression-grows b.barrier within) (λ x. grows-pure {X = Option EntryBody} (Some (record { barrier = x; scope = scope_no b.scope })))
 
 entries-grow : (within : Within) (before es : List NumberedEntry) → Grows (entries_made within before es)
 unfolding entries_made
 entries-grow within before [] = grows-pure {X = List Entry} []
 entries-grow within before (e ∷ es) =
-    grows-then (entry_body_made within e.body) (λ body. entries_made within (before ++ e ∷ []) es >>= (λ others. pure (entry_with within.names before e body ∷ others))) (barrier-grows within e.body)
-    (λ body. grows-then (entries_made within (before ++ e ∷ []) es) (λ others. pure (entry_with within.names before e body ∷ others)) (entries-grow within (before ++ e ∷ []) es) (λ others. grows-pure (entry_with within.names before e body ∷ others)))
+    grows-then (entry_body_made within e.body)
+    (λ body. entries_made within (before ++ e ∷ []) es >>= (λ others. pure (entry_with within.names before e body ∷ others))) (barrier-grows within e.body)
+    (λ body. grows-then (entries_made within (before ++ e ∷ []) es) (λ others. pure (entry_with within.names before e body ∷ others))
+    (entries-grow within (before ++ e ∷ []) es) (λ others. grows-pure (entry_with within.names before e body ∷ others)))
 
 scalar-grows : (within : Within) (e : Expression) → Grows (scalar_initial within e)
 unfolding scalar_initial
 scalar-grows within e = grows-then (expression_made e within) (λ v. pure (initial.Scalar v)) (expression-grows e within) (λ v. grows-pure (initial.Scalar v))
 
-array-grows : (array : Bool) (within : Within) (e : Expression) → Grows (cond array (pure (initial.Array (array_name within (expression_image e).name))) (scalar_initial within e))
+array-grows : (array : Bool) (within : Within) (e : Expression)
+    → Grows (cond array (pure (initial.Array (array_name within (expression_image e).name))) (scalar_initial within e))
 array-grows true within e = grows-pure (initial.Array (array_name within (expression_image e).name))
 array-grows false within e = scalar-grows within e
 
@@ -93,8 +101,11 @@ declarations-grow : (within : Within) (before ds : List NumberedDeclaration) →
 unfolding declarations_made declaration_made
 declarations-grow within before [] = grows-pure {X = List NumberedObject} []
 declarations-grow within before (d ∷ ds) =
-    grows-then (initial_made within d.subtype d.initial) (λ i. declarations_made within (before ++ d ∷ []) ds >>= (λ others. pure (numbered_object within.names before d i ∷ others))) (initial-grows within d.subtype d.initial)
-    (λ i. grows-then (declarations_made within (before ++ d ∷ []) ds) (λ others. pure (numbered_object within.names before d i ∷ others)) (declarations-grow within (before ++ d ∷ []) ds)
+    grows-then (initial_made within d.subtype d.initial)
+    (λ i. declarations_made within (before ++ d ∷ []) ds >>= (λ others. pure (numbered_object within.names before d i ∷ others)))
+    (initial-grows within d.subtype d.initial)
+    (λ i. grows-then (declarations_made within (before ++ d ∷ []) ds) (λ others. pure (numbered_object within.names before d i ∷ others))
+    (declarations-grow within (before ++ d ∷ []) ds)
     (λ others. grows-pure (numbered_object within.names before d i ∷ others)))
 
 -- ---- all that is made
@@ -109,20 +120,27 @@ behind_actions within = do
 behind-grows : (within : Within) → Grows (behind_actions within)
 behind-grows within =
     grows-then (task_units_made within 0 within.names.task_units)
-    (λ ts. entries_made within [] within.names.entries >>= (λ es. declarations_made within [] within.names.declarations >>= (λ ds. pure {X = MadeLists} (record { task_units = ts; entries = es; declarations = ds }))))
+    (λ ts. entries_made within [] within.names.entries
+    >>= (λ es.
+    declarations_made within [] within.names.declarations >>= (λ ds. pure {X = MadeLists} (record { task_units = ts; entries = es; declarations = ds }))))
     (tasks-grow within 0 within.names.task_units)
-    (λ ts. grows-then (entries_made within [] within.names.entries) (λ es. declarations_made within [] within.names.declarations >>= (λ ds. pure {X = MadeLists} (record { task_units = ts; entries = es; declarations = ds })))
+    (λ ts. grows-then (entries_made within [] within.names.entries)
+    (λ es.
+    declarations_made within [] within.names.declarations >>= (λ ds. pure {X = MadeLists} (record { task_units = ts; entries = es; declarations = ds })))
     (entries-grow within [] within.names.entries)
-    (λ es. grows-then (declarations_made within [] within.names.declarations) (λ ds. pure {X = MadeLists} (record { task_units = ts; entries = es; declarations = ds })) (declarations-grow within [] within.names.declarations)
+    (λ es. grows-then (declarations_made within [] within.names.declarations)
+    (λ ds. pure {X = MadeLists} (record { task_units = ts; entries = es; declarations = ds })) (declarations-grow within [] within.names.declarations)
     (λ ds. grows-pure {X = MadeLists} (record { task_units = ts; entries = es; declarations = ds }))))
 
 all-step : (unit : Tree) (within : Within) → unit_built unit within.names ≡ true → Step (all_made unit within) (λ p x. SourceReads unit within p)
 unfolding all_made
 all-step unit within b =
-    step-then (actions_made unit within) (λ u. behind_actions within) (actions-step unit within b) (λ u. record { grows = λ l. (behind-grows within l).0; reads = λ l p h r. r })
+    step-then (actions_made unit within) (λ u. behind_actions within) (actions-step unit within b)
+    (λ u. record { grows = λ l. (behind-grows within l).0; reads = λ l p h r. r })
 
 -- the image with the lists that were made
-all-hold : (n : Names) (unit : Tree) (made : Lists × MadeLists) → are_own n (map (λ f. f.scope) made.0.firsts) ≡ true → Holds (program_with n unit made.0 made.1) 0 made.0
+all-hold : (n : Names) (unit : Tree) (made : Lists × MadeLists) → are_own n (map (λ f. f.scope) made.0.firsts) ≡ true
+    → Holds (program_with n unit made.0 made.1) 0 made.0
 unfolding program_with
 all-hold n unit made own = record {
   values = λ i h. refl;
@@ -137,7 +155,8 @@ behind-keeps within = record { firsts = λ l. (behind-grows within l).1; actions
 scopes-are-those : (n : Names) (unit : Tree) → map (λ f. f.scope) (all_made unit (outermost n) nothing_made).0.firsts ≡ scopes_begun unit n
 unfolding all_made
 scopes-are-those n unit =
-    opens-before (actions_made unit (outermost n)) (λ u. behind_actions (outermost n)) (scopes_begun unit n) (actions-open unit (outermost n)) (λ u. behind-keeps (outermost n)) nothing_made
+    opens-before (actions_made unit (outermost n)) (λ u. behind_actions (outermost n)) (scopes_begun unit n) (actions-open unit (outermost n))
+    (λ u. behind-keeps (outermost n)) nothing_made
     ∙ append-nil (scopes_begun unit n)
 
 source-reads : (n : Names) (unit : Tree) → is_built_with n unit ≡ true → SourceReads unit (outermost n) (program_from n unit)
@@ -159,7 +178,9 @@ nothing-more k = omega arith
 actions-of_all : (n : Names) (unit : Tree) → length (program_from n unit).statements ≡ actions_of unit n
 unfolding program_from program_with all_made
 actions-of_all n unit =
-    let counted = (counts-before (actions_made unit (outermost n)) (λ u. behind_actions (outermost n)) (actions_of unit n) (actions-count n unit) (λ u. behind-keeps (outermost n))).actions nothing_made in
+    let counted =
+    (counts-before (actions_made unit (outermost n)) (λ u. behind_actions (outermost n)) (actions_of unit n) (actions-count n unit)
+    (λ u. behind-keeps (outermost n))).actions nothing_made in
     counted ∙ nothing-more (actions_of unit n)
 
 pub nothing_is_added : NothingIsAdded

@@ -4,7 +4,8 @@ ghost use Rattle.std.specs.Prelude.{◌<◌};
 use outside_memory::MemShelf;
 use std::alloc::{AllocError, Global};
 
-/// A shelf with one file, of this name and these bytes, that moves so many bytes at a time and fails at the listed calls.
+/// A shelf with one file, of this name and these bytes, that moves so many bytes at a time and
+/// fails at the listed calls.
 pub(super) fn shelf(
     alloc: Global,
     name: &[u8],

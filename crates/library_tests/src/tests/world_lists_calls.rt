@@ -1,4 +1,5 @@
-//! The lists of a world, each call once: who is found, who runs first, what is due, and what is open.
+//! The lists of a world, each call once: who is found, who runs first, what is due, and what is
+//! open.
 use ann_base::{CallNo, TaskNo};
 use machine_frames::new_frame;
 use profile_image::{ScopeNo, StatementNo, SubprogramNo, Value};

@@ -19,14 +19,21 @@ use Rattle.ada_regions.specs.declared.table.NumberedScope.{NumberedScope}
 use Rattle.ada_regions.specs.declared.table.PackageContext.{PackageContext}
 use Rattle.ada_regions.specs.Words.{and_then}
 use Rattle.ada_regions.specs.Names.{noted, region_of_entity, region_here, entity_denoted, kind_at}
-use Rattle.ada_regions.specs.Occurrences.{Occurrence, Occurrences, Region, the_context, the_context_of, further_context, package_region, package_body, main_body, a_profile, subprogram_body, a_unit, task_body, protected_body, entry_body, an_accept, a_block, a_loop, a_record, begins, ends, private_from_here, hides, heads, declares, declares_unit, completes, is_called, mentions, mentions_simply, mentions_entry, with_unit, use_package}
+use Rattle.ada_regions.specs.Occurrences.{Occurrence, Occurrences, Region, the_context, the_context_of, further_context, package_region}
+use Rattle.ada_regions.specs.Occurrences.{package_body, main_body, a_profile, subprogram_body, a_unit, task_body, protected_body, entry_body}
+use Rattle.ada_regions.specs.Occurrences.{an_accept, a_block, a_loop, a_record, begins, ends, private_from_here, hides, heads, declares}
+use Rattle.ada_regions.specs.Occurrences.{declares_unit, completes, is_called, mentions, mentions_simply, mentions_entry, with_unit, use_package}
 use Rattle.ada_regions.specs.NamesInUnits.{names_in_unit}
 use Rattle.ada_regions.specs.Visibility.{resolved}
 use Rattle.ada_regions.specs.Declaring.{type_of_kind}
-use Rattle.ada_regions.specs.Completions.{is_unit, has_body, task_numbered, task_scoped, body_of_unit, first_body, later_body, body_here, body_elsewhere, body_sought, body_begun_at, body_begun, body_apart, seen_again, entity_bound}
-use Rattle.ada_regions.specs.Regions.{scope_begun, with_scope, next_scope, context_again, package_opened, package_begun, package_body_begun, package_named, with_context, opened_if, unit_begun, record_begun, entry_number, entry_body_numbered, entry_body_begun, entry_owner, begun, library_unit}
+use Rattle.ada_regions.specs.Completions.{is_unit, has_body, task_numbered, task_scoped, body_of_unit, first_body, later_body, body_here}
+use Rattle.ada_regions.specs.Completions.{body_elsewhere, body_sought, body_begun_at, body_begun, body_apart, seen_again, entity_bound}
+use Rattle.ada_regions.specs.Regions.{scope_begun, with_scope, next_scope, context_again, package_opened, package_begun}
+use Rattle.ada_regions.specs.Regions.{package_body_begun, package_named, with_context, opened_if, unit_begun, record_begun}
+use Rattle.ada_regions.specs.Regions.{entry_number, entry_body_numbered, entry_body_begun, entry_owner, begun, library_unit}
 use Rattle.ada_regions.specs.Numbered.{behind, behind_all, no_place, nothing_known, last_priority_of, names_of}
-use Rattle.source_laws.proofs.Accepted.Numbering.{SameScopes, scopes-resolved, scopes-name_resolved, scopes-entry_mentioned, scopes-withed, scopes-either, scopes-used, scopes-hidden, scopes-headed, scopes-declared, scopes-completed}
+use Rattle.source_laws.proofs.Accepted.Numbering.{SameScopes, scopes-resolved, scopes-name_resolved, scopes-entry_mentioned, scopes-withed}
+use Rattle.source_laws.proofs.Accepted.Numbering.{scopes-either, scopes-used, scopes-hidden, scopes-headed, scopes-declared, scopes-completed}
 
 -- ---- the places of the scopes
 
@@ -83,7 +90,8 @@ scopes-first : (e : ℕ) (region : Option ℕ) (i : Identifier) (scope : Option 
 unfolding first_body
 scopes-first e None i scope n = scopes-apart None i scope [] n
 scopes-first e (Some region) i scope n =
-    scopes-either (has_body n e) n (body_apart (Some e) i scope (seen_again n region) n) (body_of_unit e region i scope n) (scopes-apart (Some e) i scope (seen_again n region) n) (scopes-body_of_unit e region i scope n)
+    scopes-either (has_body n e) n (body_apart (Some e) i scope (seen_again n region) n) (body_of_unit e region i scope n)
+    (scopes-apart (Some e) i scope (seen_again n region) n) (scopes-body_of_unit e region i scope n)
 
 scopes-later : (e : ℕ) (region : Option ℕ) (i : Identifier) (scope : Option ℕ) (n : Names) → SameScopes n (later_body e region i scope n)
 unfolding later_body
@@ -100,7 +108,8 @@ scopes-elsewhere : (kind : UnitKind) (e : Option ℕ) (i : Identifier) (scope : 
 unfolding body_elsewhere
 scopes-elsewhere kind None i scope n = scopes-apart None i scope [] n
 scopes-elsewhere kind (Some e) i scope n =
-    scopes-either (is_unit kind n e) n (later_body e (region_of_entity n e) i scope n) (body_apart None i scope [] n) (scopes-later e (region_of_entity n e) i scope n) (scopes-apart None i scope [] n)
+    scopes-either (is_unit kind n e) n (later_body e (region_of_entity n e) i scope n) (body_apart None i scope [] n)
+    (scopes-later e (region_of_entity n e) i scope n) (scopes-apart None i scope [] n)
 
 scopes-body : (kind : UnitKind) (i : Identifier) (scope : Option ℕ) (n : Names) → SameScopes n (body_begun kind i scope n)
 unfolding body_begun body_sought
@@ -142,7 +151,8 @@ scopes-barrier barrier n (Some number) = refl
 
 adds-barrier : (e : Option ℕ) (place : Place) (barrier : Expression) (n m : Names) → SameScopes n m → Adds (place ∷ []) n (scope_begun place false e None m)
 unfolding scope_begun
-adds-barrier e place barrier n m same = adds-one place false false m (scope_begun place false e None m) refl ∙ ap (λ ss. map place_of_scope ss ++ place ∷ []) same
+adds-barrier e place barrier n m same =
+    adds-one place false false m (scope_begun place false e None m) refl ∙ ap (λ ss. map place_of_scope ss ++ place ∷ []) same
 
 adds-region : (r : Region) (n : Names) → Adds (place_begun r) n (begun r n)
 unfolding begun scope_begun entry_body_begun unit_begun record_begun
@@ -155,7 +165,8 @@ adds-region (main_body i place) n = adds-one place false false n (begun (main_bo
 adds-region a_profile n = adds-none n (begun a_profile n) refl
 adds-region (subprogram_body place is_function) n = adds-one place is_function false n (begun (subprogram_body place is_function) n) refl
 adds-region (a_unit i) n = adds-none n (begun (a_unit i) n) (scopes-opened_if _ n)
-adds-region (task_body i place) n = adds-one place false false n (begun (task_body i place) n) (scopes-body unit.Task i (next_scope n) (with_scope place false false n))
+adds-region (task_body i place) n =
+    adds-one place false false n (begun (task_body i place) n) (scopes-body unit.Task i (next_scope n) (with_scope place false false n))
 adds-region (protected_body i) n = adds-none n (begun (protected_body i) n) (scopes-body unit.Protected i None n)
 adds-region (entry_body i place barrier) n =
     let owner = entry_owner n (entity_denoted n i.place) in

@@ -74,36 +74,60 @@ module _ {n : Names} where
   begins-skip w x = record { places = x.places; are = x.are; told = x.told; spelt = λ p. (let h = x.spelt p in omega arith) }
 
   pub begins-past : {s : List ℕ} {a : Occurrences} {ws : List Written} (v : List Written) → Begins n s a ws → Begins n s a (v ++ ws)
-  begins-past {s} {a} {ws} v x = record { places = x.places; are = x.are; told = x.told; spelt = λ p. (let g = tokens-append p v ws in let h = x.spelt p in omega arith) }
+  begins-past {s} {a} {ws} v x = record {
+    places = x.places;
+    are = x.are;
+    told = x.told;
+    spelt = λ p. (let g = tokens-append p v ws in let h = x.spelt p in omega arith);
+  }
 
   pub begins-front : {s : List ℕ} {a : Occurrences} {v : List Written} (w : List Written) → Begins n s a v → Begins n s a (v ++ w)
-  begins-front {s} {a} {v} w x = record { places = x.places; are = x.are; told = x.told; spelt = λ p. (let g = tokens-append p v w in let h = x.spelt p in omega arith) }
+  begins-front {s} {a} {v} w x = record {
+    places = x.places;
+    are = x.are;
+    told = x.told;
+    spelt = λ p. (let g = tokens-append p v w in let h = x.spelt p in omega arith);
+  }
 
   pub begins-quiet : {s : List ℕ} {a : Occurrences} {ws : List Written} (o : Occurrence) → Begins n s a ws → Begins n s (o ∷ a) ws
   begins-quiet o x = record { places = x.places; are = x.are; told = λ p. (let h = x.told p in omega arith); spelt = x.spelt }
 
   pub begins-behind : {s : List ℕ} {b : Occurrences} {ws : List Written} (a : Occurrences) → Begins n s b ws → Begins n s (a ++ b) ws
-  begins-behind {s} {b} a x = record { places = x.places; are = x.are; told = λ p. (let g = begun-append p a b in let h = x.told p in omega arith); spelt = x.spelt }
+  begins-behind {s} {b} a x = record {
+    places = x.places;
+    are = x.are;
+    told = λ p. (let g = begun-append p a b in let h = x.told p in omega arith);
+    spelt = x.spelt;
+  }
 
   pub begins-before : {s : List ℕ} {a : Occurrences} {ws : List Written} (b : Occurrences) → Begins n s a ws → Begins n s (a ++ b) ws
-  begins-before {s} {a} b x = record { places = x.places; are = x.are; told = λ p. (let g = begun-append p a b in let h = x.told p in omega arith); spelt = x.spelt }
+  begins-before {s} {a} b x = record {
+    places = x.places;
+    are = x.are;
+    told = λ p. (let g = begun-append p a b in let h = x.told p in omega arith);
+    spelt = x.spelt;
+  }
 
   pub begins-region : {s : List ℕ} {a : Occurrences} {ws : List Written} (r : Region) → Begins n s a ws → Begins n s (within_region r a) ws
   begins-region r x = begins-quiet (begins r) (begins-before (one ends) x)
 
   -- ---- a construct with a scope, whose place is that of a word
 
-  pub begins-scope : {s : List ℕ} {a : Occurrences} {ws : List Written} (r : Region) (place : Place) (text : List ℕ) → place_begun r ≡ place ∷ [] → Begins n s a ws
+  pub begins-scope : {s : List ℕ} {a : Occurrences} {ws : List Written} (r : Region) (place : Place) (text : List ℕ) → place_begun r ≡ place ∷ []
+      → Begins n s a ws
       → Begins n (scope_at n place ∷ s) (within_region r a) (word_at place text ∷ ws)
   begins-scope {s} {a} {ws} r place text e x = record {
     places = place ∷ x.places;
     are = ap (λ ss. scope_at n place ∷ ss) x.are;
-    told = λ p. (let f : count p (place_begun r) ≡ count p (place ∷ []) = ap (count p) e in let g = begun-append p a (one ends) in let h = x.told p in omega arith);
+    told =
+        λ p.
+        (let f : count p (place_begun r) ≡ count p (place ∷ []) = ap (count p) e in let g = begun-append p a (one ends) in let h = x.told p in omega arith);
     spelt = λ p. (let h = x.spelt p in omega arith);
   }
 
   -- where the word stands among others
-  pub begins-among : {s : List ℕ} {a : Occurrences} {ws : List Written} (before : List Written) (w : Written) (others : List Written) → Begins n s a (w ∷ ws) → Begins n s a ((before ++ w ∷ others) ++ ws)
+  pub begins-among : {s : List ℕ} {a : Occurrences} {ws : List Written} (before : List Written) (w : Written) (others : List Written) → Begins n s a (w ∷ ws)
+      → Begins n s a ((before ++ w ∷ others) ++ ws)
   begins-among {s} {a} {ws} before w others x = record {
     places = x.places;
     are = x.are;

@@ -1,5 +1,6 @@
 -- The tokens of a source stand on lines from one on.
-use Rattle.std.proofs.Common.{◌≡◌, ℕ, zero, suc, ◌+◌, ◌-◌, ◌≤◌, Bool, true, false, cond, List, [], ◌∷◌, ◌++◌, length, map, Result, Ok, Err, refl, ap, subst, arith}
+use Rattle.std.proofs.Common.{◌≡◌, ℕ, zero, suc, ◌+◌, ◌-◌, ◌≤◌, Bool, true, false, cond, List, []}
+use Rattle.std.proofs.Common.{◌∷◌, ◌++◌, length, map, Result, Ok, Err, refl, ap, subst, arith}
 use Rattle.std.specs.Prelude.{nat_lt, ◌==◌}
 use Rattle.ann_base.specs.Results.{◌>>=◌}
 use Rattle.ann_base.specs.declared.places.Place.{Place}
@@ -39,7 +40,9 @@ PieceOn (Err fault) = Unit {0}
 line-behind : (spot : Spot) (b : ℕ) → OnLine spot.place → OnLine (behind spot b).place
 line-behind spot b on = go (b == 10)
   where
-    go : (t : Bool) → OnLine (cond {A = Spot} t (record { offset = spot.offset + 1; place = record { line = spot.place.line + 1; column = 1 } }) (record { offset = spot.offset + 1; place = record { line = spot.place.line; column = spot.place.column + 1 } })).place
+    go : (t : Bool)
+        → OnLine (cond {A = Spot} t (record { offset = spot.offset + 1; place = record { line = spot.place.line + 1; column = 1 } })
+        (record { offset = spot.offset + 1; place = record { line = spot.place.line; column = spot.place.column + 1 } })).place
     go true = omega arith
     go false = on
 
@@ -63,7 +66,8 @@ with-found : (found : List Token) → AllOnLines found → (r : Result (List Tok
 with-found found on (Ok ts) all = both-on found ts on all
 with-found found on (Err fault) all = tt
 
-piece-found : (piece : Result (List Token × ℕ) LexFault) → PieceOn piece → (next : ℕ → Result (List Token) LexFault) → ((k : ℕ) → Answered (next k)) → Answered (piece >>= (λ found. with_front found.0 (next (found.1 - 1))))
+piece-found : (piece : Result (List Token × ℕ) LexFault) → PieceOn piece → (next : ℕ → Result (List Token) LexFault) → ((k : ℕ) → Answered (next k))
+    → Answered (piece >>= (λ found. with_front found.0 (next (found.1 - 1))))
 piece-found (Ok piece) on next all = with-found piece.0 on (next (piece.1 - 1)) (all (piece.1 - 1))
 piece-found (Err fault) on next all = tt
 
@@ -71,7 +75,8 @@ read-on_lines : (bytes : List ℕ) (skip : ℕ) (spot : Spot) → OnLine spot.pl
 unfolding tokens_from
 read-on_lines [] skip spot on = tt
 read-on_lines (b ∷ rest) zero spot on =
-    piece-found (piece_at spot (b ∷ rest)) (piece-on spot b rest on) (λ k. tokens_from rest k (behind spot b)) (λ k. read-on_lines rest k (behind spot b) (line-behind spot b on))
+    piece-found (piece_at spot (b ∷ rest)) (piece-on spot b rest on) (λ k. tokens_from rest k (behind spot b))
+    (λ k. read-on_lines rest k (behind spot b) (line-behind spot b on))
 read-on_lines (b ∷ rest) (suc skip) spot on = read-on_lines rest skip (behind spot b) (line-behind spot b on)
 
 tokens-on_lines : (source : List ℕ) (tokens : List Token) → tokens_of source ≡ Ok tokens → AllOnLines tokens
@@ -92,5 +97,6 @@ none-before p low (t ∷ ts) on = go (same_place p t.place) refl (none-before p 
     go true e rest = let h : p.line ≡ t.place.line = ap (λ q. q.line) (same_place-path p t.place e) in let g = on.0 in absurd (omega arith)
     go false e rest = omega arith
 
-pub none-on_no_line : (source : List ℕ) (tokens : List Token) → tokens_of source ≡ Ok tokens → (p : Place) → p.line ≤ 0 → count p (map (λ t. t.place) tokens) ≡ 0
+pub none-on_no_line : (source : List ℕ) (tokens : List Token) → tokens_of source ≡ Ok tokens → (p : Place) → p.line ≤ 0
+    → count p (map (λ t. t.place) tokens) ≡ 0
 none-on_no_line source tokens e p low = none-before p low tokens (tokens-on_lines source tokens e)

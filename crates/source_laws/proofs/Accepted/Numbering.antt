@@ -13,11 +13,16 @@ use Rattle.ada_regions.specs.declared.table.Enclosure.{Enclosure}
 use Rattle.ada_regions.specs.declared.table.Names.{Names}
 use Rattle.ada_regions.specs.Words.{and_then}
 use Rattle.ada_regions.specs.Names.{binding_in, innermost_frame, enclosure_of, enclosure_here, region_here, denoted_at, denoted_by, kind_at}
-use Rattle.ada_regions.specs.Occurrences.{Declared, the_package, the_main_procedure, an_object, a_component, a_parameter, a_loop_parameter, an_enumeration, a_literal, an_array, a_derived_type, a_subtype, an_exception, a_label, a_subprogram, an_entry, a_task, a_protected}
+use Rattle.ada_regions.specs.Occurrences.{Declared, the_package, the_main_procedure, an_object, a_component, a_parameter, a_loop_parameter, an_enumeration}
+use Rattle.ada_regions.specs.Occurrences.{a_literal, an_array, a_derived_type, a_subtype, an_exception, a_label, a_subprogram, an_entry, a_task, a_protected}
 use Rattle.ada_regions.specs.Visibility.{sought, answered, resolved}
 use Rattle.ada_regions.specs.SelectedNames.{selected, selection_answered, parts_resolved, name_resolved}
-use Rattle.ada_regions.specs.Declaring.{hidden, entered, entered_here, entered_as_unit, with_binding, is_taken, unit_is_taken, library_frame, declared, object_declared, component_declared, parameter_declared, loop_parameter_declared, enumeration_declared, literal_declared, array_declared, derived_declared, subtype_declared, exception_declared, subprogram_declared, entry_declared, unit_entered, task_declared, protected_declared, numbered}
-use Rattle.ada_regions.specs.Completions.{headed, owned, entry_noted, entry_mentioned, entity_bound, specified_number, completed_in, numbered_if, body_of_declared, completed_or_declared, completed}
+use Rattle.ada_regions.specs.Declaring.{hidden, entered, entered_here, entered_as_unit, with_binding, is_taken, unit_is_taken, library_frame, declared}
+use Rattle.ada_regions.specs.Declaring.{object_declared, component_declared, parameter_declared, loop_parameter_declared, enumeration_declared}
+use Rattle.ada_regions.specs.Declaring.{literal_declared, array_declared, derived_declared, subtype_declared, exception_declared, subprogram_declared}
+use Rattle.ada_regions.specs.Declaring.{entry_declared, unit_entered, task_declared, protected_declared, numbered}
+use Rattle.ada_regions.specs.Completions.{headed, owned, entry_noted, entry_mentioned, entity_bound, specified_number}
+use Rattle.ada_regions.specs.Completions.{completed_in, numbered_if, body_of_declared, completed_or_declared, completed}
 use Rattle.ada_regions.specs.Regions.{withed, used_if, is_used_package, used}
 
 -- m has the scopes of n
@@ -42,12 +47,14 @@ scopes-selection i (Some d) n = refl
 scopes-parts : (prefix : Option Denoted) (parts : List Identifier) (n : Names) → SameScopes n (parts_resolved prefix parts n)
 scopes-parts prefix [] n = refl
 scopes-parts None (i ∷ rest) n = refl
-scopes-parts (Some d) (i ∷ rest) n = scopes-parts (selected n i.text d) rest (selection_answered i (selected n i.text d) n) ∙ scopes-selection i (selected n i.text d) n
+scopes-parts (Some d) (i ∷ rest) n =
+    scopes-parts (selected n i.text d) rest (selection_answered i (selected n i.text d) n) ∙ scopes-selection i (selected n i.text d) n
 
 pub scopes-name_resolved : (name : Name) (n : Names) → SameScopes n (name_resolved name n)
 unfolding name_resolved
 scopes-name_resolved name n =
-    scopes-parts (denoted_at (resolved name.parts.first n) name.parts.first.place) name.parts.others (resolved name.parts.first n) ∙ scopes-resolved name.parts.first n
+    scopes-parts (denoted_at (resolved name.parts.first n) name.parts.first.place) name.parts.others (resolved name.parts.first n)
+    ∙ scopes-resolved name.parts.first n
 
 scopes-entry_noted : (e : Option ℕ) (i : Identifier) (n : Names) → SameScopes n (entry_noted e i n)
 scopes-entry_noted (Some e) i n = refl
@@ -85,25 +92,30 @@ pub scopes-headed : (i : Identifier) (n : Names) → SameScopes n (headed i n)
 unfolding headed
 scopes-headed i n = scopes-either (is_some (completed_in n (region_here n) i.text)) n n (hidden i n) refl (scopes-hidden i n)
 
-scopes-entered : (f : Enclosure) (taken : Bool) (i : Identifier) (kind : EntityKind) (region : Option ℕ) (n : Names) → SameScopes n (entered f taken i kind region n)
+scopes-entered : (f : Enclosure) (taken : Bool) (i : Identifier) (kind : EntityKind) (region : Option ℕ) (n : Names)
+    → SameScopes n (entered f taken i kind region n)
 unfolding entered
 scopes-entered f true i kind region n = refl
 scopes-entered f false i kind region n = refl
 
-entered-here : (i : Identifier) (n m last : Names) (kind : EntityKind) (region : Option ℕ) → last ≡ entered_here i kind region m → SameScopes n m → SameScopes n last
+entered-here : (i : Identifier) (n m last : Names) (kind : EntityKind) (region : Option ℕ) → last ≡ entered_here i kind region m → SameScopes n m
+    → SameScopes n last
 unfolding entered_here
 entered-here i n m last kind region e same = ap (λ t. t.scopes) e ∙ scopes-entered (enclosure_here m) (is_taken m (region_here m) i.text) i kind region m ∙ same
 
-entered-unit : (i : Identifier) (n m last : Names) (kind : EntityKind) (region : Option ℕ) → last ≡ entered_as_unit i kind region m → SameScopes n m → SameScopes n last
+entered-unit : (i : Identifier) (n m last : Names) (kind : EntityKind) (region : Option ℕ) → last ≡ entered_as_unit i kind region m → SameScopes n m
+    → SameScopes n last
 unfolding entered_as_unit
 entered-unit i n m last kind region e same = ap (λ t. t.scopes) e ∙ scopes-entered (enclosure_of library_frame) (unit_is_taken m i.text) i kind region m ∙ same
 
-scopes-subprogram : (f : Enclosure) (specified : Bool) (scope : ℕ) (i : Identifier) (s : SubprogramSpecification) (n : Names) → SameScopes n (subprogram_declared f specified scope i s n)
+scopes-subprogram : (f : Enclosure) (specified : Bool) (scope : ℕ) (i : Identifier) (s : SubprogramSpecification) (n : Names)
+    → SameScopes n (subprogram_declared f specified scope i s n)
 unfolding subprogram_declared
 scopes-subprogram f specified scope i s n = scopes-entered f (is_taken n f.region i.text) i _ None _
 
 pub scopes-declared : (i : Identifier) (what : Declared) (n : Names) → SameScopes n (declared i what n)
-unfolding declared object_declared component_declared parameter_declared loop_parameter_declared enumeration_declared literal_declared array_declared derived_declared subtype_declared exception_declared entry_declared unit_entered task_declared protected_declared numbered
+unfolding declared object_declared component_declared parameter_declared loop_parameter_declared enumeration_declared literal_declared array_declared
+    derived_declared subtype_declared exception_declared entry_declared unit_entered task_declared protected_declared numbered
 scopes-declared i the_package n = entered-unit i n _ _ _ _ refl refl
 scopes-declared i the_main_procedure n = entered-unit i n _ _ _ _ refl refl
 scopes-declared i (an_object o) n = entered-here i n _ _ _ _ refl refl
@@ -132,7 +144,8 @@ unfolding numbered_if
 scopes-numbered_if s n None = refl
 scopes-numbered_if s n (Some number) = refl
 
-scopes-completed_or : (outer : Enclosure) (e : Option ℕ) (i : Identifier) (s : SubprogramSpecification) (n : Names) → SameScopes n (completed_or_declared outer e i s n)
+scopes-completed_or : (outer : Enclosure) (e : Option ℕ) (i : Identifier) (s : SubprogramSpecification) (n : Names)
+    → SameScopes n (completed_or_declared outer e i s n)
 unfolding completed_or_declared body_of_declared
 scopes-completed_or outer (Some e) i s n = scopes-numbered_if s n (and_then (kind_at n e) specified_number)
 scopes-completed_or outer None i s n = scopes-subprogram outer false _ i s n

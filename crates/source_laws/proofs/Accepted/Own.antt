@@ -47,7 +47,8 @@ first-scope : (unit : Tree) → scope_at (names_of unit) no_place ≡ 0
 unfolding scope_at
 first-scope unit = position-of 0 no_place (names_of unit).scopes ∙ ap (position 0 no_place) (places-of_all unit)
 
-once-with_none : (p : Place) (ts : List Place) → count p ts ≤ 1 → (p.line ≤ 0 → count p ts ≡ 0) → (k : ℕ) → k ≤ count p ts → one_if (same_place p no_place) + k ≤ 1
+once-with_none : (p : Place) (ts : List Place) → count p ts ≤ 1 → (p.line ≤ 0 → count p ts ≡ 0) → (k : ℕ) → k ≤ count p ts
+    → one_if (same_place p no_place) + k ≤ 1
 once-with_none p ts once none k le = go (same_place p no_place) refl
   where
     go : (b : Bool) → same_place p no_place ≡ b → one_if b + k ≤ 1
@@ -70,7 +71,8 @@ scopes_are_own source unit read =
     let written = spelt-counted p (unit_written unit) (lexemes_of source tokens) spelt.0 in
     let placed : count p (map (λ l. l.place) (lexemes_of source tokens)) ≡ count p (map (λ t. t.place) tokens) = ap (count p) (lexemes-placed source tokens) in
     let few = begun.spelt p in
-    once-with_none p (map (λ t. t.place) tokens) (rising-apart p tokens (tokens-rise source tokens read.lexed)) (none-on_no_line source tokens read.lexed p) (count p begun.places) (omega arith)))
+    once-with_none p (map (λ t. t.place) tokens) (rising-apart p tokens (tokens-rise source tokens read.lexed)) (none-on_no_line source tokens read.lexed p)
+    (count p begun.places) (omega arith)))
     (λ p. (
     let told = begun.told p in
     let counted = begun-counted p (names_in_unit unit) in

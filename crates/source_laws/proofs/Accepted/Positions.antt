@@ -1,5 +1,6 @@
 -- Constructs at places of their own have scopes of their own, where the table has them all.
-use Rattle.std.proofs.Common.{◌≡◌, ℕ, suc, ◌+◌, ◌≤◌, Bool, true, false, cond, not, ◌||◌, List, [], ◌∷◌, length, map, Some, slice_get, eqb, ltb, refl, sym, ap, ◌∙◌, arith, eqb-true}
+use Rattle.std.proofs.Common.{◌≡◌, ℕ, suc, ◌+◌, ◌≤◌, Bool, true, false, cond, not, ◌||◌, List, [], ◌∷◌}
+use Rattle.std.proofs.Common.{length, map, Some, slice_get, eqb, ltb, refl, sym, ap, ◌∙◌, arith, eqb-true}
 use Rattle.std.specs.List.{list_any, list_all}
 use Rattle.std.proofs.lemmas.List.{length-map}
 use Rattle.std.proofs.lemmas.Option.{slice_get_within}
@@ -91,7 +92,8 @@ module _ (n : Names) where
   none-same p stands [] all none = refl
   none-same p stands (q ∷ ps) all none = go (eqb (scope_at n p) (scope_at n q)) refl (none-same p stands ps (later-stand q ps all) (omega arith))
     where
-      go : (b : Bool) → eqb (scope_at n p) (scope_at n q) ≡ b → list_any (eqb (scope_at n p)) (map (scope_at n) ps) ≡ false → (b || list_any (eqb (scope_at n p)) (map (scope_at n) ps)) ≡ false
+      go : (b : Bool) → eqb (scope_at n p) (scope_at n q) ≡ b → list_any (eqb (scope_at n p)) (map (scope_at n) ps) ≡ false
+          → (b || list_any (eqb (scope_at n p)) (map (scope_at n) ps)) ≡ false
       go false e rest = rest
       go true e rest =
           let same = one-scope p q stands (first-stands q ps all) e in
@@ -105,7 +107,8 @@ module _ (n : Names) where
       let none = none-same q (first-stands q ps all) ps (later-stand q ps all) (let h = once q in omega arith) in
       and_from _ _ (ap not none) (all-apart ps (later-stand q ps all) (λ p. (let h = once p in omega arith)))
 
-  pub places-own : (ps : List Place) → ((p : Place) → count p ps ≤ 1) → ((p : Place) → count p ps ≤ count p (places_of n)) → are_own n (map (scope_at n) ps) ≡ true
+  pub places-own : (ps : List Place) → ((p : Place) → count p ps ≤ 1) → ((p : Place) → count p ps ≤ count p (places_of n))
+      → are_own n (map (scope_at n) ps) ≡ true
   places-own ps once table =
       let all : Standing ps = λ p some. stands-at p (let h = table p in omega arith) in
       and_from _ _ (all-in_table ps all) (all-apart ps all once)

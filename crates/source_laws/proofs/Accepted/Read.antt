@@ -40,7 +40,8 @@ in_full source b test short = rw (test ∙ short) refl
 tokens_read : (source : List ℕ) (tokens : List Token) → Lexed source tokens → tokens_of source ≡ Ok tokens
 tokens_read source tokens lexed =
     in_full source false (le-ltb MAX_SOURCE (length source) lexed.0) refl
-    ∙ answers (tokens_from source 0 start) tokens (only_by as_it_is (as_answer (tokens_from source 0 start)) source (answered (tokens_from source 0 start)) tokens lexed)
+    ∙ answers (tokens_from source 0 start) tokens
+    (only_by as_it_is (as_answer (tokens_from source 0 start)) source (answered (tokens_from source 0 start)) tokens lexed)
 
 -- ---- and so is the tree that they spell
 

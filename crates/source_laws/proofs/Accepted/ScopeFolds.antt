@@ -30,7 +30,9 @@ use Rattle.ada_tree.proofs.Mapped.{mapped, mapped_statement, mapped_alternative,
 use Rattle.ada_regions.specs.declared.table.Names.{Names}
 use Rattle.ada_image.specs.declared.making.SequencePlace.{SequencePlace}
 use Rattle.ada_image.specs.declared.making.SequencePlace.TheVariants as sequence_place
-use Rattle.image_laws.specs.ScopesOfText.{Scopes, inside_scopes, elsif_scopes, case_scopes, handler_scopes, alternative_scopes, alternatives_scopes, statement_scopes, statements_scopes, operation_scopes, operations_scopes, declaration_scopes, declarations_scopes, handled_scopes, parts_scopes, same_scopes, scopes_layer, sequence_scopes}
+use Rattle.image_laws.specs.ScopesOfText.{Scopes, inside_scopes, elsif_scopes, case_scopes, handler_scopes, alternative_scopes, alternatives_scopes}
+use Rattle.image_laws.specs.ScopesOfText.{statement_scopes, statements_scopes, operation_scopes, operations_scopes, declaration_scopes}
+use Rattle.image_laws.specs.ScopesOfText.{declarations_scopes, handled_scopes, parts_scopes, same_scopes, scopes_layer, sequence_scopes}
 use Rattle.image_laws.proofs.Images.Layers.{elsif_of, case_of, handler_of}
 
 both : {a b c d : List ℕ} → a ≡ c → b ≡ d → a ++ b ≡ c ++ d
@@ -86,7 +88,8 @@ module _ (f : Sequence → Scopes) (n : Names) where
   alternative_of_map x (alternative.Delay delay (Some statements)) = refl
   alternative_of_map x (alternative.Terminate place) = refl
 
-  alternatives_of_map : (xs : List (SelectAlternative Sequence)) → alternatives_scopes same_scopes (map (mapped_alternative f) xs) n ≡ alternatives_scopes f xs n
+  alternatives_of_map : (xs : List (SelectAlternative Sequence))
+      → alternatives_scopes same_scopes (map (mapped_alternative f) xs) n ≡ alternatives_scopes f xs n
   alternatives_of_map [] = refl
   alternatives_of_map (x ∷ xs) = both (alternatives_of_map xs) (alternative_of_map x x.alternative)
 
@@ -159,6 +162,7 @@ module _ (f : Sequence → Scopes) (n : Names) where
   parts_of_map s (sequence_place.BehindDeclarations part) = handled_of_map s
   parts_of_map s (sequence_place.AsBody is_task_body) = both (handled_of_map s) (declarations_of_map s.declarations)
 
-pub sequence_begins : (q : Sequence) (place : SequencePlace) (n : Names) → sequence_scopes q place n ≡ parts_scopes sequence_scopes (out-Sequence q).parts place n
+pub sequence_begins : (q : Sequence) (place : SequencePlace) (n : Names)
+    → sequence_scopes q place n ≡ parts_scopes sequence_scopes (out-Sequence q).parts place n
 sequence_begins q place n =
     ap (λ (x : Scopes). x place n) (fold_out-Sequence Scopes scopes_layer q) ∙ parts_of_map sequence_scopes n (out-Sequence q).parts place

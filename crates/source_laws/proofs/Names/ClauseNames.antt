@@ -1,5 +1,6 @@
 -- What the further parts of a use clause's name denote: children of predefined units, or nothing that a use clause may name.
-use Rattle.std.proofs.Common.{◌≡◌, ◌⊎◌, inl, inr, ℕ, Bool, true, false, cond, ◌||◌, not, List, [], ◌∷◌, map, Option, Some, None, is_some, option_map, refl, sym, ap, subst, ◌∙◌}
+use Rattle.std.proofs.Common.{◌≡◌, ◌⊎◌, inl, inr, ℕ, Bool, true, false, cond, ◌||◌, not, List, [], ◌∷◌}
+use Rattle.std.proofs.Common.{map, Option, Some, None, is_some, option_map, refl, sym, ap, subst, ◌∙◌}
 use Rattle.ann_base.specs.declared.places.Place.{Place}
 use Rattle.ada_tree.specs.declared.names.Identifier.{Identifier}
 use Rattle.ada_regions.specs.declared.predefined.Predefined.{Predefined}
@@ -43,7 +44,9 @@ Fits (Some (denotes.Item u i)) m = Barren m
 
 -- the same of a name with further parts: a predefined unit, or nothing that a clause may name
 abbrev pub Ends : Names → Option Denoted → Meaning → Type 0
-Ends n x m = ((u : PredefinedUnit) × (x ≡ Some (denotes.Unit u)) × (m ≡ is_unit u)) ⊎ ((m ≡ is_nothing) × (used_package n x ≡ None) × ((u : PredefinedUnit) → x ≡ Some (denotes.Unit u) → ⊥))
+Ends n x m =
+    ((u : PredefinedUnit) × (x ≡ Some (denotes.Unit u)) × (m ≡ is_unit u))
+    ⊎ ((m ≡ is_nothing) × (used_package n x ≡ None) × ((u : PredefinedUnit) → x ≡ Some (denotes.Unit u) → ⊥))
 
 barren-nothing : Barren is_nothing
 barren-nothing i rest = refl
@@ -67,7 +70,8 @@ unused-plain n (Some (denotes.Unit u)) plain = absurd plain
 unused-plain n (Some (denotes.Item u i)) plain = absurd plain
 
 -- behind a unit
-unit-ends : (n : Names) (last : ℕ) (u : PredefinedUnit) (name : List ℕ) → Ends n (option_or (item_of last u name) (option_map denotes.Unit (child_unit u name))) (meaning_or is_nothing (option_map is_unit (child_unit u name)))
+unit-ends : (n : Names) (last : ℕ) (u : PredefinedUnit) (name : List ℕ)
+    → Ends n (option_or (item_of last u name) (option_map denotes.Unit (child_unit u name))) (meaning_or is_nothing (option_map is_unit (child_unit u name)))
 unfolding item_of
 unit-ends n last u name = go (item_in last u name) refl
   where
@@ -75,7 +79,9 @@ unit-ends n last u name = go (item_in last u name) refl
     child None = inr (refl, refl, λ v e. cc)
     child (Some v) = inl (v, refl, refl)
 
-    go : (x : Option Predefined) → item_in last u name ≡ x → Ends n (option_or (option_map (denotes.Item u) x) (option_map denotes.Unit (child_unit u name))) (meaning_or is_nothing (option_map is_unit (child_unit u name)))
+    go : (x : Option Predefined) → item_in last u name ≡ x
+        → Ends n (option_or (option_map (denotes.Item u) x) (option_map denotes.Unit (child_unit u name)))
+        (meaning_or is_nothing (option_map is_unit (child_unit u name)))
     go None e = child (child_unit u name)
     go (Some i) e = inr (ap (λ x. meaning_or is_nothing (option_map is_unit x)) (child-none last u name (ap is_some e)), refl, λ v q. cc)
 
@@ -86,7 +92,8 @@ record Next (n : Names) (d : Denoted) (m : Meaning) (i : Identifier) : Type 0 wh
   ends : Ends n (selected n i.text d) next
 
 barren-next : (n : Names) (d : Denoted) (m : Meaning) (i : Identifier) → Barren m → Plain n (selected n i.text d) → Next n d m i
-barren-next n d m i barren plain = let unused = unused-plain n (selected n i.text d) plain in record { next = is_nothing; further = further; ends = inr (refl, unused.0, unused.1) }
+barren-next n d m i barren plain =
+    let unused = unused-plain n (selected n i.text d) plain in record { next = is_nothing; further = further; ends = inr (refl, unused.0, unused.1) }
   where
     further : (rest : List Identifier) → child_meaning m (i ∷ rest) ≡ child_meaning is_nothing rest
     further [] = barren i []
@@ -123,7 +130,8 @@ denoted-selection i None n none = none
 denoted-selection i (Some d) n none = denoted-noted i.place d n.denotations
 
 -- a part is kept at its own place
-selection-other : (q : Place) (i : Identifier) (x : Option Denoted) (n : Names) → same_place q i.place ≡ false → denoted_at (selection_answered i x n) q ≡ denoted_at n q
+selection-other : (q : Place) (i : Identifier) (x : Option Denoted) (n : Names) → same_place q i.place ≡ false
+    → denoted_at (selection_answered i x n) q ≡ denoted_at n q
 selection-other q i x n other = same-selection q i x n other
 
 -- nothing is kept yet of the places of these parts, which differ
@@ -145,7 +153,9 @@ rest-unnoted n i x rest u = (both.1, others)
 
     -- another place
     other : (q : Place) → is_among q (map place_of rest) ≡ true → (t : Bool) → same_place q i.place ≡ t → t ≡ false
-    other q among true e = absurd (false-true (sym (not-true (is_among i.place (map place_of rest)) both.0) ∙ (ap (λ z. is_among z (map place_of rest)) (sym (same_place-path q i.place e)) ∙ among)))
+    other q among true e =
+        absurd (false-true
+        (sym (not-true (is_among i.place (map place_of rest)) both.0) ∙ (ap (λ z. is_among z (map place_of rest)) (sym (same_place-path q i.place e)) ∙ among)))
     other q among false e = refl
 
     others : (q : Place) → is_among q (map place_of rest) ≡ true → denoted_at (selection_answered i x n) q ≡ None
@@ -154,7 +164,11 @@ rest-unnoted n i x rest u = (both.1, others)
 
 last-unnoted : (n : Names) (i : Identifier) (rest : List Identifier) → Unnoted n (i ∷ rest) → denoted_at n (last_from i rest).place ≡ None
 last-unnoted n i [] u = first-unnoted n i [] u
-last-unnoted n i (j ∷ rest) u = last-unnoted n j rest ((and_parts _ (all_differ (map place_of (j ∷ rest))) u.0).1, λ q among. u.1 q (also (same_place q i.place) (is_among q (map place_of (j ∷ rest))) among))
+last-unnoted n i (j ∷ rest) u =
+    last-unnoted n j rest (
+      (and_parts _ (all_differ (map place_of (j ∷ rest))) u.0).1,
+      λ q among. u.1 q (also (same_place q i.place) (is_among q (map place_of (j ∷ rest))) among),
+    )
   where
     also : (s t : Bool) → t ≡ true → (s || t) ≡ true
     also true t e = refl
@@ -168,17 +182,22 @@ ends-at : (n m : Names) (x : Option Denoted) (k : Meaning) → ((y : Option Deno
 ends-at n m x k same (inl e) = inl e
 ends-at n m x k same (inr e) = inr (e.0, same x ∙ e.1, e.2)
 
-pub parts-end : (x : Option Denoted) (m : Meaning) (i : Identifier) (rest : List Identifier) (n : Names) → Fits x m → IsSound (known n) → Unowned n.frames → Unnoted n (i ∷ rest)
+pub parts-end : (x : Option Denoted) (m : Meaning) (i : Identifier) (rest : List Identifier) (n : Names) → Fits x m → IsSound (known n) → Unowned n.frames
+    → Unnoted n (i ∷ rest)
     → Ends (parts_resolved x (i ∷ rest) n) (denoted_at (parts_resolved x (i ∷ rest) n) (last_from i rest).place) (child_meaning m (i ∷ rest))
-parts-end None m i rest n fits sound unowned u = inr (fits i rest, ap (used_package n) (last-unnoted n i rest u), λ v e. (let h : None ≡ Some (denotes.Unit v) = sym (last-unnoted n i rest u) ∙ e in cc))
+parts-end None m i rest n fits sound unowned u =
+    inr (fits i rest, ap (used_package n) (last-unnoted n i rest u), λ v e. (let h : None ≡ Some (denotes.Unit v) = sym (last-unnoted n i rest u) ∙ e in cc))
 parts-end (Some d) m i [] n fits sound unowned u =
     let next = next-part n d m i fits sound unowned in
     let x = selected n i.text d in
     let n' = selection_answered i x n in
-    ends-at n n' (denoted_at n' i.place) (child_meaning m (i ∷ [])) (used-selection i x n) (ends-as n x (denoted_at n' i.place) next.next (child_meaning m (i ∷ [])) (denoted-selection i x n (first-unnoted n i [] u)) (next.further []) next.ends)
+    ends-at n n' (denoted_at n' i.place) (child_meaning m (i ∷ [])) (used-selection i x n)
+    (ends-as n x (denoted_at n' i.place) next.next (child_meaning m (i ∷ [])) (denoted-selection i x n (first-unnoted n i [] u))
+    (next.further []) next.ends)
 parts-end (Some d) m i (j ∷ rest) n fits sound unowned u =
     let next = next-part n d m i fits sound unowned in
     let x = selected n i.text d in
     let n' = selection_answered i x n in
     subst (λ z. Ends (parts_resolved x (j ∷ rest) n') (denoted_at (parts_resolved x (j ∷ rest) n') (last_from j rest).place) z) (sym (next.further (j ∷ rest)))
-    (parts-end x next.next j rest n' (ends-fits n x next.next next.ends) (subst IsSound (sym (known-selection i x n)) sound) (subst Unowned (ap (λ c. c.frames) (sym (clauses-selection i x n))) unowned) (rest-unnoted n i x (j ∷ rest) u))
+    (parts-end x next.next j rest n' (ends-fits n x next.next next.ends) (subst IsSound (sym (known-selection i x n)) sound)
+    (subst Unowned (ap (λ c. c.frames) (sym (clauses-selection i x n))) unowned) (rest-unnoted n i x (j ∷ rest) u))

@@ -24,13 +24,26 @@ use Rattle.ada_regions.specs.declared.table.PackageContext.{PackageContext}
 use Rattle.ada_regions.specs.declared.table.UseClause.{UseClause}
 use Rattle.ada_regions.specs.declared.table.Names.{Names}
 use Rattle.ada_regions.specs.Words.{and_then}
-use Rattle.ada_regions.specs.Names.{noted, innermost_frame, enclosure_of, enclosure_here, region_here, scope_in, kind_at, region_of_entity, entity_denoted, denoted_by}
-use Rattle.ada_regions.specs.Occurrences.{Occurrence, Declared, Region, the_package, the_main_procedure, an_object, a_component, a_parameter, a_loop_parameter, an_enumeration, a_literal, an_array, a_derived_type, a_subtype, an_exception, a_label, a_subprogram, an_entry, a_task, a_protected, the_context, the_context_of, further_context, package_region, package_body, main_body, a_profile, subprogram_body, a_unit, task_body, protected_body, entry_body, an_accept, a_block, a_loop, a_record, begins, ends, private_from_here, hides, heads, declares, declares_unit, completes, is_called, mentions, mentions_simply, mentions_entry, with_unit, use_package}
+use Rattle.ada_regions.specs.Names.{noted, innermost_frame, enclosure_of, enclosure_here, region_here}
+use Rattle.ada_regions.specs.Names.{scope_in, kind_at, region_of_entity, entity_denoted, denoted_by}
+use Rattle.ada_regions.specs.Occurrences.{Occurrence, Declared, Region, the_package, the_main_procedure, an_object, a_component, a_parameter}
+use Rattle.ada_regions.specs.Occurrences.{a_loop_parameter, an_enumeration, a_literal, an_array, a_derived_type, a_subtype, an_exception, a_label}
+use Rattle.ada_regions.specs.Occurrences.{a_subprogram, an_entry, a_task, a_protected, the_context, the_context_of, further_context, package_region}
+use Rattle.ada_regions.specs.Occurrences.{package_body, main_body, a_profile, subprogram_body, a_unit, task_body, protected_body, entry_body}
+use Rattle.ada_regions.specs.Occurrences.{an_accept, a_block, a_loop, a_record, begins, ends, private_from_here, hides, heads, declares}
+use Rattle.ada_regions.specs.Occurrences.{declares_unit, completes, is_called, mentions, mentions_simply, mentions_entry, with_unit, use_package}
 use Rattle.ada_regions.specs.Visibility.{sought, answered, resolved}
 use Rattle.ada_regions.specs.SelectedNames.{selected, selection_answered, parts_resolved, name_resolved}
-use Rattle.ada_regions.specs.Declaring.{hidden, with_binding, entered, entered_here, entered_as_unit, is_taken, type_of_kind, declared, object_declared, component_declared, parameter_declared, loop_parameter_declared, enumeration_declared, literal_declared, array_declared, derived_declared, subtype_declared, exception_declared, subprogram_declared, entry_declared, unit_entered, task_declared, protected_declared, numbered}
-use Rattle.ada_regions.specs.Completions.{specified_number, headed, completed_in, owned, numbered_if, body_of_declared, completed_or_declared, completed, is_unit, has_body, task_scoped, task_numbered, body_of_unit, first_body, later_body, body_here, body_elsewhere, body_sought, body_begun_at, body_begun, body_apart, seen_again, entity_bound, entry_noted, entry_mentioned}
-use Rattle.ada_regions.specs.Regions.{scope_begun, context_again, package_opened, package_begun, package_body_begun, with_context, opened_if, unit_begun, record_begun, entry_owner, entry_body_numbered, entry_body_begun, begun, with_scope, next_scope, withed, library_unit, used_if, is_used_package, used}
+use Rattle.ada_regions.specs.Declaring.{hidden, with_binding, entered, entered_here, entered_as_unit, is_taken, type_of_kind, declared}
+use Rattle.ada_regions.specs.Declaring.{object_declared, component_declared, parameter_declared, loop_parameter_declared, enumeration_declared}
+use Rattle.ada_regions.specs.Declaring.{literal_declared, array_declared, derived_declared, subtype_declared, exception_declared}
+use Rattle.ada_regions.specs.Declaring.{subprogram_declared, entry_declared, unit_entered, task_declared, protected_declared, numbered}
+use Rattle.ada_regions.specs.Completions.{specified_number, headed, completed_in, owned, numbered_if, body_of_declared, completed_or_declared, completed}
+use Rattle.ada_regions.specs.Completions.{is_unit, has_body, task_scoped, task_numbered, body_of_unit, first_body, later_body, body_here, body_elsewhere}
+use Rattle.ada_regions.specs.Completions.{body_sought, body_begun_at, body_begun, body_apart, seen_again, entity_bound, entry_noted, entry_mentioned}
+use Rattle.ada_regions.specs.Regions.{scope_begun, context_again, package_opened, package_begun, package_body_begun, with_context}
+use Rattle.ada_regions.specs.Regions.{opened_if, unit_begun, record_begun, entry_owner, entry_body_numbered, entry_body_begun}
+use Rattle.ada_regions.specs.Regions.{begun, with_scope, next_scope, withed, library_unit, used_if, is_used_package, used}
 use Rattle.ada_regions.specs.Numbered.{behind}
 
 pub record Clauses : Type 0 where
@@ -88,25 +101,30 @@ clauses-headed i n = go (is_some (completed_in n (region_here n) i.text))
     go true = refl
     go false = clauses-hidden i n
 
-clauses-entered : (f : Enclosure) (taken : Bool) (i : Identifier) (kind : EntityKind) (region : Option ℕ) (n : Names) → clauses (entered f taken i kind region n) ≡ clauses n
+clauses-entered : (f : Enclosure) (taken : Bool) (i : Identifier) (kind : EntityKind) (region : Option ℕ) (n : Names)
+    → clauses (entered f taken i kind region n) ≡ clauses n
 unfolding entered
 clauses-entered f true i kind region n = refl
 clauses-entered f false i kind region n = refl
 
-clauses-here : (i : Identifier) (kind : EntityKind) (region : Option ℕ) (n m last : Names) → last ≡ entered_here i kind region m → clauses m ≡ clauses n → clauses last ≡ clauses n
+clauses-here : (i : Identifier) (kind : EntityKind) (region : Option ℕ) (n m last : Names) → last ≡ entered_here i kind region m → clauses m ≡ clauses n
+    → clauses last ≡ clauses n
 unfolding entered_here
 clauses-here i kind region n m last e same = ap clauses e ∙ (clauses-entered (enclosure_here m) (is_taken m (region_here m) i.text) i kind region m ∙ same)
 
-clauses-as_unit : (i : Identifier) (kind : EntityKind) (region : Option ℕ) (n m last : Names) → last ≡ entered_as_unit i kind region m → clauses m ≡ clauses n → clauses last ≡ clauses n
+clauses-as_unit : (i : Identifier) (kind : EntityKind) (region : Option ℕ) (n m last : Names) → last ≡ entered_as_unit i kind region m → clauses m ≡ clauses n
+    → clauses last ≡ clauses n
 unfolding entered_as_unit
 clauses-as_unit i kind region n m last e same = ap clauses e ∙ (clauses-entered _ _ i kind region m ∙ same)
 
-clauses-subprogram : (f : Enclosure) (specified : Bool) (scope : ℕ) (i : Identifier) (s : SubprogramSpecification) (n : Names) → clauses (subprogram_declared f specified scope i s n) ≡ clauses n
+clauses-subprogram : (f : Enclosure) (specified : Bool) (scope : ℕ) (i : Identifier) (s : SubprogramSpecification) (n : Names)
+    → clauses (subprogram_declared f specified scope i s n) ≡ clauses n
 unfolding subprogram_declared
 clauses-subprogram f specified scope i s n = clauses-entered f (is_taken n f.region i.text) i _ None _
 
 clauses-declared : (i : Identifier) (what : Declared) (n : Names) → clauses (declared i what n) ≡ clauses n
-unfolding declared object_declared component_declared parameter_declared loop_parameter_declared enumeration_declared literal_declared array_declared derived_declared subtype_declared exception_declared entry_declared unit_entered task_declared protected_declared numbered
+unfolding declared object_declared component_declared parameter_declared loop_parameter_declared enumeration_declared literal_declared array_declared
+    derived_declared subtype_declared exception_declared entry_declared unit_entered task_declared protected_declared numbered
 clauses-declared i the_package n = clauses-as_unit i _ _ n _ _ refl refl
 clauses-declared i the_main_procedure n = clauses-as_unit i _ _ n _ _ refl refl
 clauses-declared i (an_object o) n = clauses-here i _ _ n _ _ refl refl
@@ -133,7 +151,8 @@ unfolding numbered_if
 clauses-numbered_if s n None = refl
 clauses-numbered_if s n (Some number) = refl
 
-clauses-completed_or : (f : Enclosure) (e : Option ℕ) (i : Identifier) (s : SubprogramSpecification) (n : Names) → clauses (completed_or_declared f e i s n) ≡ clauses n
+clauses-completed_or : (f : Enclosure) (e : Option ℕ) (i : Identifier) (s : SubprogramSpecification) (n : Names)
+    → clauses (completed_or_declared f e i s n) ≡ clauses n
 unfolding completed_or_declared body_of_declared
 clauses-completed_or f (Some e) i s n = clauses-numbered_if s n (and_then (kind_at n e) specified_number)
 clauses-completed_or f None i s n = clauses-subprogram f false (scope_in n.frames) i s n
@@ -142,11 +161,16 @@ clauses-completed_or f None i s n = clauses-subprogram f false (scope_in n.frame
 abbrev pub with_owner : Option ℕ → List ℕ → Clauses → Clauses
 with_owner e name c = record c { frames = record (innermost_frame c.frames) { owner = e; name = Some name } ∷ rest_of c.frames }
 
-pub clauses-completed : (i : Identifier) (s : SubprogramSpecification) (n : Names) → (e : Option ℕ) × (clauses (completed i s n) ≡ with_owner e i.text (clauses n))
+pub clauses-completed : (i : Identifier) (s : SubprogramSpecification) (n : Names)
+    → (e : Option ℕ) × (clauses (completed i s n) ≡ with_owner e i.text (clauses n))
 unfolding completed owned
 clauses-completed i s n = (
-  entity_denoted (completed_or_declared (enclosure_of (innermost_frame (rest_of n.frames))) (completed_in n (enclosure_of (innermost_frame (rest_of n.frames))).region i.text) i s n) i.place,
-  ap (with_owner _ i.text) (clauses-completed_or (enclosure_of (innermost_frame (rest_of n.frames))) (completed_in n (enclosure_of (innermost_frame (rest_of n.frames))).region i.text) i s n),
+  entity_denoted
+      (completed_or_declared (enclosure_of (innermost_frame (rest_of n.frames)))
+      (completed_in n (enclosure_of (innermost_frame (rest_of n.frames))).region i.text) i s n) i.place,
+  ap (with_owner _ i.text)
+      (clauses-completed_or (enclosure_of (innermost_frame (rest_of n.frames)))
+      (completed_in n (enclosure_of (innermost_frame (rest_of n.frames))).region i.text) i s n),
 )
 
 -- ---- regions that begin
@@ -162,7 +186,8 @@ opens-apart : (e : Option ℕ) (i : Identifier) (scope : Option ℕ) (seen : Lis
 unfolding body_apart
 opens-apart e i scope seen n = (_, refl)
 
-opens-entry_body : (place : Place) (e : Option ℕ) (barrier : Expression) (n : Names) (number : Option EntryNo) → Opens n (scope_begun place false e None (entry_body_numbered barrier n number))
+opens-entry_body : (place : Place) (e : Option ℕ) (barrier : Expression) (n : Names) (number : Option EntryNo)
+    → Opens n (scope_begun place false e None (entry_body_numbered barrier n number))
 unfolding scope_begun entry_body_numbered
 opens-entry_body place e barrier n None = (_, refl)
 opens-entry_body place e barrier n (Some number) = (_, refl)
@@ -178,12 +203,15 @@ opens-package e i exports (Some region) n = (_, refl)
 opens-package_begun : (e : Option ℕ) (i : Identifier) (n : Names) → Opens n (package_begun e i n)
 unfolding package_begun
 opens-package_begun None i n = opens-apart None i None [] n
-opens-package_begun (Some e) i n = opens-same (with_context e n) n (package_opened e i true (region_of_entity n e) (with_context e n)) refl (opens-package e i true (region_of_entity n e) (with_context e n))
+opens-package_begun (Some e) i n =
+    opens-same (with_context e n) n (package_opened e i true (region_of_entity n e) (with_context e n)) refl
+    (opens-package e i true (region_of_entity n e) (with_context e n))
 
 opens-package_body : (e : Option ℕ) (i : Identifier) (n : Names) → Opens n (package_body_begun e i n)
 unfolding package_body_begun
 opens-package_body None i n = opens-apart None i None [] n
-opens-package_body (Some e) i n = opens-same (noted i.place (denotes.Entity e) n) n (package_opened e i false (region_of_entity n e) (noted i.place (denotes.Entity e) n)) refl
+opens-package_body (Some e) i n =
+    opens-same (noted i.place (denotes.Entity e) n) n (package_opened e i false (region_of_entity n e) (noted i.place (denotes.Entity e) n)) refl
     (opens-package e i false (region_of_entity n e) (noted i.place (denotes.Entity e) n))
 
 clauses-task_numbered : (t : AdaType) (scope : ℕ) (n : Names) → clauses (task_numbered t scope n) ≡ clauses n
@@ -238,7 +266,9 @@ opens-body_begun kind i scope n = go (entity_bound n (region_here n) i.text)
   where
     go : (e : Option ℕ) → Opens n (body_begun_at kind e i scope n)
     go (Some e) = opens-body_here kind e i scope n
-    go None = opens-same (resolved i n) n (body_elsewhere kind (entity_denoted (resolved i n) i.place) i scope (resolved i n)) (clauses-resolved i n) (opens-body_elsewhere kind (entity_denoted (resolved i n) i.place) i scope (resolved i n))
+    go None =
+        opens-same (resolved i n) n (body_elsewhere kind (entity_denoted (resolved i n) i.place) i scope (resolved i n)) (clauses-resolved i n)
+        (opens-body_elsewhere kind (entity_denoted (resolved i n) i.place) i scope (resolved i n))
 
 -- no context of a library unit
 abbrev pub IsInnerRegion : Region → Type 0
@@ -257,7 +287,8 @@ clauses-begun (main_body i place) n inner = (_, refl)
 clauses-begun a_profile n inner = (_, refl)
 clauses-begun (subprogram_body place is_function) n inner = (_, refl)
 clauses-begun (a_unit i) n inner = opens-if _ n
-clauses-begun (task_body i place) n inner = opens-same (with_scope place false false n) n (body_begun unit.Task i (next_scope n) (with_scope place false false n)) refl
+clauses-begun (task_body i place) n inner =
+    opens-same (with_scope place false false n) n (body_begun unit.Task i (next_scope n) (with_scope place false false n)) refl
     (opens-body_begun unit.Task i (next_scope n) (with_scope place false false n))
 clauses-begun (protected_body i) n inner = opens-body_begun unit.Protected i None n
 clauses-begun (entry_body i place barrier) n inner = opens-entry_body place (entry_owner n (entity_denoted n i.place)) barrier n _
@@ -314,7 +345,8 @@ withs-behind (mentions name) n calm = ap (λ c. c.withs) (clauses-name_resolved 
 withs-behind (mentions_simply i) n calm = ap (λ c. c.withs) (clauses-resolved i n)
 withs-behind (mentions_entry i) n calm = ap (λ c. c.withs) (clauses-entry_noted (entity_bound n (region_here n) i.text) i n)
 withs-behind (with_unit name) n calm = absurd calm
-withs-behind (use_package name) n calm = (clauses-used_if (denoted_by (name_resolved name n) name) (name_resolved name n)).0 ∙ ap (λ c. c.withs) (clauses-name_resolved name n)
+withs-behind (use_package name) n calm =
+    (clauses-used_if (denoted_by (name_resolved name n) name) (name_resolved name n)).0 ∙ ap (λ c. c.withs) (clauses-name_resolved name n)
 
 -- use clauses
 abbrev pub IsNoUse : Occurrence → Type 0
@@ -386,7 +418,8 @@ unowned-called : (name : List ℕ) (fs : List Frame) → Unowned fs → Unowned 
 unowned-called name [] u = ((λ e q. cc), tt)
 unowned-called name (f ∷ fs) u = u
 
-unowned-owned : (e : Option ℕ) (name : List ℕ) (fs : List Frame) → ((innermost_frame fs).region ≡ 0 → ⊥) → Unowned fs → Unowned (record (innermost_frame fs) { owner = e; name = Some name } ∷ rest_of fs)
+unowned-owned : (e : Option ℕ) (name : List ℕ) (fs : List Frame) → ((innermost_frame fs).region ≡ 0 → ⊥) → Unowned fs
+    → Unowned (record (innermost_frame fs) { owner = e; name = Some name } ∷ rest_of fs)
 unowned-owned e name [] other u = ((λ q r. other r), tt)
 unowned-owned e name (f ∷ fs) other u = ((λ q r. other r), u.1)
 
@@ -424,11 +457,13 @@ unowned-behind (hides i) n other u = unowned-as n.frames _ (ap (λ c. c.frames) 
 unowned-behind (heads i) n other u = unowned-as n.frames _ (ap (λ c. c.frames) (clauses-headed i n)) u
 unowned-behind (declares i what) n other u = unowned-as n.frames _ (ap (λ c. c.frames) (clauses-declared i what n)) u
 unowned-behind (declares_unit i what) n other u = unowned-as n.frames _ (ap (λ c. c.frames) (clauses-declared i what n)) u
-unowned-behind (completes i s) n other u = unowned-as _ _ (ap (λ c. c.frames) (clauses-completed i s n).1) (unowned-owned (clauses-completed i s n).0 i.text n.frames other u)
+unowned-behind (completes i s) n other u =
+    unowned-as _ _ (ap (λ c. c.frames) (clauses-completed i s n).1) (unowned-owned (clauses-completed i s n).0 i.text n.frames other u)
 unowned-behind (is_called i) n other u = unowned-called i.text n.frames u
 unowned-behind (mentions name) n other u = unowned-as n.frames _ (ap (λ c. c.frames) (clauses-name_resolved name n)) u
 unowned-behind (mentions_simply i) n other u = unowned-as n.frames _ (ap (λ c. c.frames) (clauses-resolved i n)) u
 unowned-behind (mentions_entry i) n other u = unowned-as n.frames _ (ap (λ c. c.frames) (clauses-entry_noted (entity_bound n (region_here n) i.text) i n)) u
 unowned-behind (with_unit name) n other u = unowned-as n.frames _ (clauses-withed name (library_unit n name) n).1 u
 unowned-behind (use_package name) n other u =
-    unowned-as n.frames _ ((clauses-used_if (denoted_by (name_resolved name n) name) (name_resolved name n)).1 ∙ ap (λ c. c.frames) (clauses-name_resolved name n)) u
+    unowned-as n.frames _
+    ((clauses-used_if (denoted_by (name_resolved name n) name) (name_resolved name n)).1 ∙ ap (λ c. c.frames) (clauses-name_resolved name n)) u

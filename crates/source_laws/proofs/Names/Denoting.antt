@@ -1,5 +1,6 @@
 -- What is kept of a direct name in the table of a source is what the regions around it declare.
-use Rattle.std.proofs.Common.{◌≡◌, inl, inr, ℕ, Bool, true, false, not, ◌&&◌, ◌||◌, List, [], ◌∷◌, ◌++◌, map, Option, Some, None, option_map, eqb, refl, sym, ap, ap₂, subst, ◌∙◌, eqb-true, eq-eqb}
+use Rattle.std.proofs.Common.{◌≡◌, inl, inr, ℕ, Bool, true, false, not, ◌&&◌, ◌||◌, List, [], ◌∷◌, ◌++◌, map}
+use Rattle.std.proofs.Common.{Option, Some, None, option_map, eqb, refl, sym, ap, ap₂, subst, ◌∙◌, eqb-true, eq-eqb}
 use Rattle.std.proofs.lemmas.Bool.{and_parts, or_right}
 use Rattle.world_tables.specs.Tables.{item_at}
 use Rattle.ann_base.specs.declared.places.Place.{Place}
@@ -28,7 +29,8 @@ use Rattle.source_laws.proofs.Names.Lawful.{table_at_the_end, kept-in, directly-
 
 pub same_place-path : (p q : Place) → same_place p q ≡ true → p ≡ q
 same_place-path p q e =
-    let both = and_parts (eqb p.line q.line) (eqb p.column q.column) e in ap₂ (λ l c. record { line = l; column = c }) (eqb-true p.line q.line both.0) (eqb-true p.column q.column both.1)
+    let both = and_parts (eqb p.line q.line) (eqb p.column q.column) e in
+    ap₂ (λ l c. record { line = l; column = c }) (eqb-true p.line q.line both.0) (eqb-true p.column q.column both.1)
 
 pub same_place-itself : (p : Place) → same_place p p ≡ true
 same_place-itself p = ap₂ (λ a b. a && b) (eq-eqb p.line p.line refl) (eq-eqb p.column p.column refl)
@@ -65,13 +67,16 @@ pub never-noted : (last : ℕ) (p : Place) (before : Before) → is_among p (pla
 unfolding item_at
 never-noted last p [] none = refl
 never-noted last p (o ∷ before) none =
-    let apart = both-false p (is_among p (places_in o)) (is_among p (places_before before)) (sym (among-append p (places_in o) (places_before before)) ∙ none) in
+    let apart =
+    both-false p (is_among p (places_in o)) (is_among p (places_before before)) (sym (among-append p (places_in o) (places_before before)) ∙ none) in
     same-behind p o (table_at last before) apart.0 ∙ never-noted last p before apart.1
 
 pub place-before : (p : Place) (b before : Before) → Stands b before → is_among p (places_before b) ≡ true → is_among p (places_before before) ≡ true
 place-before p b [] s among = ap (λ z. is_among p (places_before z)) (sym s) ∙ among
 place-before p b (o ∷ before) (inl e) among = ap (λ z. is_among p (places_before z)) (sym e) ∙ among
-place-before p b (o ∷ before) (inr s) among = among-append p (places_in o) (places_before before) ∙ or_right (is_among p (places_in o)) (is_among p (places_before before)) (place-before p b before s among)
+place-before p b (o ∷ before) (inr s) among =
+    among-append p (places_in o) (places_before before)
+    ∙ or_right (is_among p (places_in o)) (is_among p (places_before before)) (place-before p b before s among)
 
 -- what is kept of a place stays, where no two places are the same
 pub stays-noted : (last : ℕ) (p : Place) (b before : Before) → Stands b before → all_differ (places_before before) ≡ true → is_among p (places_before b) ≡ true
@@ -85,7 +90,8 @@ stays-noted last p b (o ∷ before) (inr s) differ among =
 -- ---- at the name
 
 -- what is visible directly is noted
-directly-noted : (i : Identifier) (n : Names) (d : Option Denoted) → directly n i.text ≡ Some d → denoted_at n i.place ≡ None → denoted_at (resolved i n) i.place ≡ d
+directly-noted : (i : Identifier) (n : Names) (d : Option Denoted) → directly n i.text ≡ Some d → denoted_at n i.place ≡ None
+    → denoted_at (resolved i n) i.place ≡ d
 unfolding resolved sought
 directly-noted i n d e none = ap (λ x. denoted_at (answered i (found_or (used_around n i.text n.frames) x) n) i.place) e ∙ go d
   where
@@ -99,19 +105,23 @@ pub first-place : (o : Occurrence) (i : Identifier) → direct_name o ≡ Some i
 unfolding behind name_resolved used
 first-place (mentions name) i e =
     let same : name.parts.first ≡ i = cc in
-    subst (λ z. (rest : List Place) × (places_in (mentions name) ≡ z.place ∷ rest) × ((n : Names) → is_among z.place rest ≡ false → denoted_at (behind (mentions name) n) z.place ≡ denoted_at (resolved z n) z.place)) same
+    subst (λ z. (rest : List Place) × (places_in (mentions name) ≡ z.place ∷ rest)
+    × ((n : Names) → is_among z.place rest ≡ false → denoted_at (behind (mentions name) n) z.place ≡ denoted_at (resolved z n) z.place)) same
     (map place_of name.parts.others, refl, λ n apart. same-parts name.parts.first.place _ name.parts.others (resolved name.parts.first n) apart)
 first-place (mentions_simply j) i e =
     let same : j ≡ i = cc in
-    subst (λ z. (rest : List Place) × (places_in (mentions_simply j) ≡ z.place ∷ rest) × ((n : Names) → is_among z.place rest ≡ false → denoted_at (behind (mentions_simply j) n) z.place ≡ denoted_at (resolved z n) z.place)) same
+    subst (λ z. (rest : List Place) × (places_in (mentions_simply j) ≡ z.place ∷ rest)
+    × ((n : Names) → is_among z.place rest ≡ false → denoted_at (behind (mentions_simply j) n) z.place ≡ denoted_at (resolved z n) z.place)) same
     ([], refl, λ n apart. refl)
 first-place (use_package name) i e =
     let same : name.parts.first ≡ i = cc in
-    subst (λ z. (rest : List Place) × (places_in (use_package name) ≡ z.place ∷ rest) × ((n : Names) → is_among z.place rest ≡ false → denoted_at (behind (use_package name) n) z.place ≡ denoted_at (resolved z n) z.place)) same (
+    subst (λ z. (rest : List Place) × (places_in (use_package name) ≡ z.place ∷ rest)
+    × ((n : Names) → is_among z.place rest ≡ false → denoted_at (behind (use_package name) n) z.place ≡ denoted_at (resolved z n) z.place)) same (
       map place_of name.parts.others,
       refl,
       λ n apart.
-          same-used_if name.parts.first.place _ (name_resolved name n) ∙ same-parts name.parts.first.place _ name.parts.others (resolved name.parts.first n) apart,
+          same-used_if name.parts.first.place _ (name_resolved name n)
+          ∙ same-parts name.parts.first.place _ name.parts.others (resolved name.parts.first n) apart,
     )
 first-place _ i e = absurd (none-some i e)
 
@@ -135,10 +145,15 @@ direct_names_by_position unit complete apart o c s i name m visible =
     let here : Stands c end = stands-tail o c end s in
     let first = first-place o i name in
     let rest = first.0 in
-    let differ : all_differ (i.place ∷ (rest ++ places_before c)) ≡ true = ap (λ ps. all_differ (ps ++ places_before c)) (sym first.1) ∙ differ-at (o ∷ c) end s apart in
-    let alone : is_among i.place (rest ++ places_before c) ≡ false = not-true (is_among i.place (rest ++ places_before c)) (and_parts (not (is_among i.place (rest ++ places_before c))) (all_differ (rest ++ places_before c)) differ).0 in
+    let differ : all_differ (i.place ∷ (rest ++ places_before c)) ≡ true =
+    ap (λ ps. all_differ (ps ++ places_before c)) (sym first.1) ∙ differ-at (o ∷ c) end s apart in
+    let alone : is_among i.place (rest ++ places_before c) ≡ false =
+    not-true (is_among i.place (rest ++ places_before c))
+    (and_parts (not (is_among i.place (rest ++ places_before c))) (all_differ (rest ++ places_before c)) differ).0 in
     let both = both-false i.place (is_among i.place rest) (is_among i.place (places_before c)) (sym (among-append i.place rest (places_before c)) ∙ alone) in
-    let found = some-mapped (told_meaning (table_at last end)) (directly (table_at last c) i.text) m (directly-meant last c end i.text here (kept-in unit c complete here) (kept-in unit end complete (stands-here end)) ∙ visible) in
+    let found =
+    some-mapped (told_meaning (table_at last end)) (directly (table_at last c) i.text) m
+    (directly-meant last c end i.text here (kept-in unit c complete here) (kept-in unit end complete (stands-here end)) ∙ visible) in
     let among : is_among i.place (places_before (o ∷ c)) ≡ true =
     ap (λ ps. is_among i.place (ps ++ places_before c)) first.1 ∙ ap (λ t. t || is_among i.place (rest ++ places_before c)) (same_place-itself i.place) in
     ap (λ n. told_meaning n (denoted_at n i.place)) (sym (table_at_the_end unit))

@@ -1,5 +1,6 @@
 -- What a package exports by the table is what its declaration declares by position, outside its private part.
-use Rattle.std.proofs.Common.{◌≡◌, inl, inr, ℕ, suc, Bool, true, false, cond, not, ◌&&◌, List, [], ◌∷◌, length, Option, Some, None, option_map, eqb, bytes_eq, find, refl, sym, ap, ◌∙◌, arith, eqb-true, ne_eqb}
+use Rattle.std.proofs.Common.{◌≡◌, inl, inr, ℕ, suc, Bool, true, false, cond, not, ◌&&◌, List, [], ◌∷◌, length, Option}
+use Rattle.std.proofs.Common.{Some, None, option_map, eqb, bytes_eq, find, refl, sym, ap, ◌∙◌, arith, eqb-true, ne_eqb}
 use borrow.Author.Tests.{eqb-false}
 use Rattle.std.proofs.lemmas.Slice.Eq.{bytes_eq-Decides}
 use Rattle.world_tables.specs.Tables.{item_at}
@@ -28,10 +29,12 @@ shown last c region name = and_then (and_then (item_at region (known_at last c).
 abbrev pub said_shown : ℕ → Before → ℕ → List ℕ → Option ℕ
 said_shown last c home name = option_map (entity_number last) (nearest (exports_here home name) c)
 
-found-bound : (region : ℕ) (b : Binding) (bindings : Bindings) (test : Binding → Bool) → and_then (item_at region (bound_in region b bindings)) (find test) ≡ cond (test b) (Some b) (and_then (item_at region bindings) (find test))
+found-bound : (region : ℕ) (b : Binding) (bindings : Bindings) (test : Binding → Bool)
+    → and_then (item_at region (bound_in region b bindings)) (find test) ≡ cond (test b) (Some b) (and_then (item_at region bindings) (find test))
 found-bound region b bindings test = go (item_at region bindings) refl
   where
-    go : (x : Option (List Binding)) → item_at region bindings ≡ x → and_then (item_at region (bound_among x region b bindings)) (find test) ≡ cond (test b) (Some b) (and_then x (find test))
+    go : (x : Option (List Binding)) → item_at region bindings ≡ x
+        → and_then (item_at region (bound_among x region b bindings)) (find test) ≡ cond (test b) (Some b) (and_then x (find test))
     go None e = ap (λ y. and_then y (find test)) (item_at-put region (b ∷ []) bindings)
     go (Some others) e = ap (λ y. and_then y (find test)) (item_at-with_item region (b ∷ others) others bindings e)
 
@@ -40,8 +43,10 @@ found-bound region b bindings test = go (item_at region bindings) refl
 pub same_length : (b c before : Before) → Stands b before → Stands c before → length b ≡ length c → b ≡ c
 same_length b c [] s t e = s ∙ sym t
 same_length b c (o ∷ before) (inl p) (inl q) e = p ∙ sym q
-same_length b c (o ∷ before) (inl p) (inr t) e = let h : length b ≡ suc (length before) = ap length p in let l = stands-length c before t in absurd (omega arith)
-same_length b c (o ∷ before) (inr s) (inl q) e = let h : length c ≡ suc (length before) = ap length q in let l = stands-length b before s in absurd (omega arith)
+same_length b c (o ∷ before) (inl p) (inr t) e =
+    let h : length b ≡ suc (length before) = ap length p in let l = stands-length c before t in absurd (omega arith)
+same_length b c (o ∷ before) (inr s) (inl q) e =
+    let h : length c ≡ suc (length before) = ap length q in let l = stands-length b before s in absurd (omega arith)
 same_length b c (o ∷ before) (inr s) (inr t) e = same_length b c before s t e
 
 shows-number : (b : Before) → shows b ≡ true → number_of b ≡ length b
@@ -74,14 +79,16 @@ outside-flag [] = refl
 outside-flag (o ∷ []) = refl
 outside-flag (o ∷ p ∷ os) = refl
 
-pub flag-here : (last : ℕ) (before : Before) → FlagsKept last before → (innermost (known_at last before).opened).exports ≡ flag_of (is_private_behind 0 before) (around before)
+pub flag-here : (last : ℕ) (before : Before) → FlagsKept last before
+    → (innermost (known_at last before).opened).exports ≡ flag_of (is_private_behind 0 before) (around before)
 flag-here last before k = innermost-flag (known_at last before).opened ∙ (ap first_flag k ∙ go (around before))
   where
     go : (bs : List Before) → first_flag (flags 0 bs before) ≡ flag_of (is_private_behind 0 before) bs
     go [] = refl
     go (b ∷ bs) = refl
 
-pub flag-outside : (last : ℕ) (before : Before) → FlagsKept last before → (innermost (outside (known_at last before).opened)).exports ≡ flag_of (is_private_behind 1 before) (around_outside before)
+pub flag-outside : (last : ℕ) (before : Before) → FlagsKept last before
+    → (innermost (outside (known_at last before).opened)).exports ≡ flag_of (is_private_behind 1 before) (around_outside before)
 flag-outside last before k = outside-flag (known_at last before).opened ∙ (ap second_flag k ∙ go (around before))
   where
     go : (bs : List Before) → second_flag (flags 0 bs before) ≡ flag_of (is_private_behind 1 before) (all_but_innermost bs)
@@ -100,7 +107,8 @@ pub record Begun (last region home : ℕ) (u before : Before) : Type 0 where
 
 module _ (last region home : ℕ) (u before : Before) (g : Begun last region home u before) (k : Kept last before) where
   -- the innermost of some regions around, in which a position y stands
-  module _ (bs : List Before) (y : Before) (first : Stands (first_or_none bs) before) (stands : Stands y before) (number : region_of_position y ≡ number_of_innermost bs) (private : Bool) where
+  module _ (bs : List Before) (y : Before) (first : Stands (first_or_none bs) before) (stands : Stands y before)
+      (number : region_of_position y ≡ number_of_innermost bs) (private : Bool) where
     is-u : (b : Before) → Stands b before → eqb (length b) home ≡ true → b ≡ u
     is-u b s e = same_length b u before s g.stands (eqb-true (length b) home e ∙ sym g.long)
 
@@ -119,9 +127,12 @@ module _ (last region home : ℕ) (u before : Before) (g : Begun last region hom
         go true e = absurd (other (begun-there e))
         go false e = e
 
-  pub flag-first : (bs : List Before) (y : Before) (first : Stands (first_or_none bs) before) → Stands y before → region_of_position y ≡ number_of_innermost bs → (private : Bool) → here_at last y ≡ region
+  pub flag-first : (bs : List Before) (y : Before) (first : Stands (first_or_none bs) before) → Stands y before → region_of_position y ≡ number_of_innermost bs
+      → (private : Bool) → here_at last y ≡ region
       → flag_of private bs ≡ (begun_at home bs && not private)
-  flag-first [] y first stands number private here = ap (λ t. t && not private) (sym (ne_eqb 0 home (λ e. (let s : number_of u ≡ home = shows-number u g.shown_there ∙ g.long in empty-long u g.shown_there (g.long ∙ sym e)))))
+  flag-first [] y first stands number private here =
+      ap (λ t. t && not private)
+      (sym (ne_eqb 0 home (λ e. (let s : number_of u ≡ home = shows-number u g.shown_there ∙ g.long in empty-long u g.shown_there (g.long ∙ sym e)))))
     where
       empty-long : (v : Before) → shows v ≡ true → length v ≡ 0 → ⊥
       empty-long [] e q = false-true e
@@ -140,15 +151,19 @@ module _ (last region home : ℕ) (u before : Before) (g : Begun last region hom
 
 -- ---- what an occurrence changes of what a region shows
 
-pub exports-same : (last : ℕ) (o : Occurrence) (before : Before) (region home : ℕ) (name : List ℕ) → item_at region (known_at last (o ∷ before)).bindings ≡ item_at region (known_at last before).bindings
-    → exports_here home name o before ≡ false → shown last before region name ≡ said_shown last before home name → shown last (o ∷ before) region name ≡ said_shown last (o ∷ before) home name
+pub exports-same : (last : ℕ) (o : Occurrence) (before : Before) (region home : ℕ) (name : List ℕ)
+    → item_at region (known_at last (o ∷ before)).bindings ≡ item_at region (known_at last before).bindings
+    → exports_here home name o before ≡ false → shown last before region name ≡ said_shown last before home name
+    → shown last (o ∷ before) region name ≡ said_shown last (o ∷ before) home name
 exports-same last o before region home name same none k =
     ap (λ x. and_then (and_then x (find (exports_name name))) (λ (b : Binding). b.entity)) same
     ∙ (k ∙ ap (λ t. option_map (entity_number last) (cond t (Some (o ∷ before)) (nearest (exports_here home name) before))) (sym none))
 
 pub exports-bound : (last : ℕ) (o : Occurrence) (y before : Before) (region home : ℕ) (name : List ℕ) (b : Binding)
-    → (known_at last (o ∷ before)).bindings ≡ bound_in (here_at last y) b (known_at last before).bindings → b.entity ≡ Some (length (known_at last before).entities)
-    → (here_at last y ≡ region → exports_name name b ≡ exports_here home name o before) → ((here_at last y ≡ region → ⊥) → exports_here home name o before ≡ false)
+    → (known_at last (o ∷ before)).bindings ≡ bound_in (here_at last y) b (known_at last before).bindings
+    → b.entity ≡ Some (length (known_at last before).entities)
+    → (here_at last y ≡ region → exports_name name b ≡ exports_here home name o before)
+    → ((here_at last y ≡ region → ⊥) → exports_here home name o before ≡ false)
     → shown last before region name ≡ said_shown last before home name → shown last (o ∷ before) region name ≡ said_shown last (o ∷ before) home name
 exports-bound last o y before region home name b bound entity same other k = go (eqb (here_at last y) region) refl
   where
@@ -156,31 +171,37 @@ exports-bound last o y before region home name b bound entity same other k = go 
     old = and_then (item_at region (known_at last before).bindings) (find (exports_name name))
 
     by_test : (t : Bool) → and_then old (λ (x : Binding). x.entity) ≡ said_shown last before home name
-        → and_then (cond t (Some b) old) (λ (x : Binding). x.entity) ≡ option_map (entity_number last) (cond t (Some (o ∷ before)) (nearest (exports_here home name) before))
+        → and_then (cond t (Some b) old) (λ (x : Binding). x.entity)
+        ≡ option_map (entity_number last) (cond t (Some (o ∷ before)) (nearest (exports_here home name) before))
     by_test true q = entity
     by_test false q = q
 
     go : (t : Bool) → eqb (here_at last y) region ≡ t → shown last (o ∷ before) region name ≡ said_shown last (o ∷ before) home name
     go true e =
         let there : here_at last y ≡ region = eqb-true (here_at last y) region e in
-        ap (λ bs. and_then (and_then (item_at region bs) (find (exports_name name))) (λ (x : Binding). x.entity)) (bound ∙ ap (λ r. bound_in r b (known_at last before).bindings) there)
-        ∙ (ap (λ z. and_then z (λ (x : Binding). x.entity)) (found-bound region b (known_at last before).bindings (exports_name name) ∙ ap (λ t. cond t (Some b) old) (same there))
+        ap (λ bs. and_then (and_then (item_at region bs) (find (exports_name name))) (λ (x : Binding). x.entity))
+        (bound ∙ ap (λ r. bound_in r b (known_at last before).bindings) there)
+        ∙ (ap (λ z. and_then z (λ (x : Binding). x.entity))
+        (found-bound region b (known_at last before).bindings (exports_name name) ∙ ap (λ t. cond t (Some b) old) (same there))
         ∙ by_test (exports_here home name o before) k)
     go false e =
         let away : here_at last y ≡ region → ⊥ = eqb-false (here_at last y) region e in
-        exports-same last o before region home name (ap (item_at region) bound ∙ item-other (here_at last y) b (known_at last before).bindings region (λ q. away (sym q))) (other away) k
+        exports-same last o before region home name
+        (ap (item_at region) bound ∙ item-other (here_at last y) b (known_at last before).bindings region (λ q. away (sym q))) (other away) k
 
 -- a name that is hidden shows nothing
 none-exported : (name : List ℕ) (bs : List Binding) → find (binds name) bs ≡ None → find (exports_name name) bs ≡ None
 none-exported name [] e = refl
 none-exported name (b ∷ bs) e = go (binds name b) b.exported e (none-exported name bs)
   where
-    go : (t x : Bool) → cond t (Some b) (find (binds name) bs) ≡ None → (find (binds name) bs ≡ None → find (exports_name name) bs ≡ None) → cond (x && t) (Some b) (find (exports_name name) bs) ≡ None
+    go : (t x : Bool) → cond t (Some b) (find (binds name) bs) ≡ None → (find (binds name) bs ≡ None → find (exports_name name) bs ≡ None)
+        → cond (x && t) (Some b) (find (exports_name name) bs) ≡ None
     go true x e more = cc
     go false true e more = more e
     go false false e more = more e
 
-none-shown : (name : List ℕ) (x : Option (List Binding)) → told_of (and_then x (find (binds name))) ≡ None → and_then (and_then x (find (exports_name name))) (λ (b : Binding). b.entity) ≡ None
+none-shown : (name : List ℕ) (x : Option (List Binding)) → told_of (and_then x (find (binds name))) ≡ None
+    → and_then (and_then x (find (exports_name name))) (λ (b : Binding). b.entity) ≡ None
 none-shown name None e = refl
 none-shown name (Some bs) e = ap (λ z. and_then z (λ (b : Binding). b.entity)) (none-exported name bs (unfound (find (binds name) bs) e))
   where
@@ -189,7 +210,8 @@ none-shown name (Some bs) e = ap (λ z. and_then z (λ (b : Binding). b.entity))
     unfound (Some b) q = cc
 
 pub exports-hidden : (last : ℕ) (o : Occurrence) (before : Before) (region home : ℕ) (name hidden : List ℕ) (exports : Bool)
-    → (known_at last (o ∷ before)).bindings ≡ bound_in (here_at last before) (record { name = hidden; entity = None; exported = exports }) (known_at last before).bindings
+    → (known_at last (o ∷ before)).bindings
+    ≡ bound_in (here_at last before) (record { name = hidden; entity = None; exported = exports }) (known_at last before).bindings
     → told_in last before (here_at last before) hidden ≡ None → exports_here home name o before ≡ false
     → shown last before region name ≡ said_shown last before home name → shown last (o ∷ before) region name ≡ said_shown last (o ∷ before) home name
 exports-hidden last o before region home name hidden exports bound none nothing k = go (eqb (here_at last before) region) refl
@@ -200,7 +222,9 @@ exports-hidden last o before region home name hidden exports bound none nothing 
     old : Option Binding
     old = and_then (item_at region (known_at last before).bindings) (find (exports_name name))
 
-    by_test : (x t : Bool) → (t ≡ true → and_then old (λ (z : Binding). z.entity) ≡ None) → and_then (cond (x && t) (Some (record { name = hidden; entity = None; exported = exports })) old) (λ (z : Binding). z.entity) ≡ and_then old (λ (z : Binding). z.entity)
+    by_test : (x t : Bool) → (t ≡ true → and_then old (λ (z : Binding). z.entity) ≡ None)
+        → and_then (cond (x && t) (Some (record { name = hidden; entity = None; exported = exports })) old) (λ (z : Binding). z.entity)
+        ≡ and_then old (λ (z : Binding). z.entity)
     by_test true true q = sym (q refl)
     by_test true false q = refl
     by_test false t q = refl
@@ -211,12 +235,17 @@ exports-hidden last o before region home name hidden exports bound none nothing 
     go : (t : Bool) → eqb (here_at last before) region ≡ t → shown last (o ∷ before) region name ≡ said_shown last (o ∷ before) home name
     go true e =
         let there : here_at last before ≡ region = eqb-true (here_at last before) region e in
-        ap (λ bs. and_then (and_then (item_at region bs) (find (exports_name name))) (λ (x : Binding). x.entity)) (bound ∙ ap (λ r. bound_in r (record { name = hidden; entity = None; exported = exports }) (known_at last before).bindings) there)
-        ∙ (ap (λ z. and_then z (λ (x : Binding). x.entity)) (found-bound region (record { name = hidden; entity = None; exported = exports }) (known_at last before).bindings (exports_name name))
+        ap (λ bs. and_then (and_then (item_at region bs) (find (exports_name name))) (λ (x : Binding). x.entity))
+        (bound ∙ ap (λ r. bound_in r (record { name = hidden; entity = None; exported = exports }) (known_at last before).bindings) there)
+        ∙ (ap (λ z. and_then z (λ (x : Binding). x.entity))
+        (found-bound region (record { name = hidden; entity = None; exported = exports }) (known_at last before).bindings (exports_name name))
         ∙ (by_test exports (bytes_eq hidden name) (λ q.
         none-shown name (item_at region (known_at last before).bindings)
         (ap (λ n. told_in last before region n) (sym ((bytes_eq-Decides hidden name).0 q)) ∙ (ap (λ r. told_in last before r hidden) (sym there) ∙ none)))
         ∙ (k ∙ after)))
     go false e =
         let away : here_at last before ≡ region → ⊥ = eqb-false (here_at last before) region e in
-        exports-same last o before region home name (ap (item_at region) bound ∙ item-other (here_at last before) (record { name = hidden; entity = None; exported = exports }) (known_at last before).bindings region (λ q. away (sym q))) nothing k
+        exports-same last o before region home name
+        (ap (item_at region) bound
+        ∙ item-other (here_at last before) (record { name = hidden; entity = None; exported = exports }) (known_at last before).bindings region
+        (λ q. away (sym q))) nothing k

@@ -20,7 +20,8 @@ inside-flat_of_map f g all (x ∷ xs) = inside-append _ _ (all x) (inside-flat_o
 -- one layer, whose expressions are those that g gives
 module _ (E : Type 0) (g : E → Expression) (all : (e : E) → Inside (names_in_expression (g e))) where
   inside-form : (x : ExpressionForm E) → Inside (names_in_form names_in_expression (map-Expression E Expression g (record { form = x })).form)
-  inside-form (form.Logical operator first others) = inside-append _ _ (all first) (inside-append _ _ (all _) (inside-flat_of_map _ _ (λ x. all _) others.others))
+  inside-form (form.Logical operator first others) =
+      inside-append _ _ (all first) (inside-append _ _ (all _) (inside-flat_of_map _ _ (λ x. all _) others.others))
   inside-form (form.Relational left place operator right) = inside-append _ _ (all left) (all right)
   inside-form (form.Adding first others) = inside-append _ _ (all first) (inside-append _ _ (all _) (inside-flat_of_map _ _ (λ x. all _) others.others))
   inside-form (form.Signed place sign operand) = all operand
@@ -34,4 +35,7 @@ module _ (E : Type 0) (g : E → Expression) (all : (e : E) → Inside (names_in
 
 pub inside-expression : (e : Expression) → Inside (names_in_expression e)
 inside-expression = ind-Expression (λ e. Inside (names_in_expression e)) (λ x y is.
-    subst (λ os. Inside os) (ap (λ (z : Expression-F Expression). names_in_form names_in_expression z.form) (is ∙ sym (out-roll-Expression x)) ∙ sym (expression_tells (roll-Expression x))) (inside-form _ (λ p. p.0) (λ p. p.1) y.form))
+    subst (λ os. Inside os)
+    (ap (λ (z : Expression-F Expression). names_in_form names_in_expression z.form) (is ∙ sym (out-roll-Expression x))
+    ∙ sym (expression_tells (roll-Expression x)))
+    (inside-form _ (λ p. p.0) (λ p. p.1) y.form))

@@ -10,17 +10,23 @@ use Rattle.ada_regions.specs.declared.table.PackageContext.{PackageContext}
 use Rattle.ada_regions.specs.declared.table.Names.{Names}
 use Rattle.ada_regions.specs.Names.{noted, region_of_entity, region_here, entity_denoted}
 use Rattle.ada_regions.specs.Visibility.{resolved}
-use Rattle.ada_regions.specs.Occurrences.{Occurrence, Region, the_package, the_main_procedure, a_derived_type, a_task, a_protected, the_context, the_context_of, further_context, package_region, package_body, main_body, a_profile, subprogram_body, a_unit, task_body, protected_body, entry_body, an_accept, a_block, a_loop, a_record, begins, ends, private_from_here, hides, heads, declares, declares_unit, completes, is_called, mentions, mentions_simply, mentions_entry, with_unit, use_package}
+use Rattle.ada_regions.specs.Occurrences.{Occurrence, Region, the_package, the_main_procedure, a_derived_type, a_task, a_protected, the_context, the_context_of}
+use Rattle.ada_regions.specs.Occurrences.{further_context, package_region, package_body, main_body, a_profile, subprogram_body, a_unit, task_body}
+use Rattle.ada_regions.specs.Occurrences.{protected_body, entry_body, an_accept, a_block, a_loop, a_record, begins, ends, private_from_here, hides, heads}
+use Rattle.ada_regions.specs.Occurrences.{declares, declares_unit, completes, is_called, mentions, mentions_simply, mentions_entry, with_unit, use_package}
 use Rattle.ada_regions.specs.Declaring.{hidden}
-use Rattle.ada_regions.specs.Completions.{headed, completed_in, is_unit, has_body, body_of_unit, first_body, later_body, body_here, body_elsewhere, body_sought, body_begun_at, body_begun, body_apart, seen_again, entity_bound}
+use Rattle.ada_regions.specs.Completions.{headed, completed_in, is_unit, has_body, body_of_unit, first_body, later_body, body_here}
+use Rattle.ada_regions.specs.Completions.{body_elsewhere, body_sought, body_begun_at, body_begun, body_apart, seen_again, entity_bound}
 use Rattle.ada_regions.specs.Regions.{context_again, package_opened, package_body_begun, package_named, with_scope, next_scope, begun, library_unit}
 use Rattle.ada_regions.specs.Numbered.{behind}
 use Rattle.source_laws.specs.Positions.{Before, around, all_but_innermost}
 use Rattle.source_laws.specs.UseClauses.{is_private_behind}
 use Rattle.source_laws.specs.Tables.{table_at}
 use Rattle.source_laws.proofs.Names.PositionLemmas.{none-some, behind-one_more}
-use Rattle.source_laws.proofs.Names.Known.{Open, known, innermost, outside, first_again, exports_no_more, with_bound, known-resolved, known-name_resolved, known-entry_mentioned, known-withed, known-used, known-ended, known-made_private, known-named_as, known-hidden}
-use Rattle.source_laws.proofs.Names.KnownDeclared.{region_behind_it, known-declared, known-package_declared, known-main_declared, outer, known-completed, known-body_declared}
+use Rattle.source_laws.proofs.Names.Known.{Open, known, innermost, outside, first_again, exports_no_more, with_bound, known-resolved, known-name_resolved}
+use Rattle.source_laws.proofs.Names.Known.{known-entry_mentioned, known-withed, known-used, known-ended, known-made_private, known-named_as, known-hidden}
+use Rattle.source_laws.proofs.Names.KnownDeclared.{region_behind_it, known-declared, known-package_declared}
+use Rattle.source_laws.proofs.Names.KnownDeclared.{known-main_declared, outer, known-completed, known-body_declared}
 use Rattle.source_laws.proofs.Names.KnownBegun.{IsOwn, known-own, known-body_of_unit}
 use Rattle.source_laws.proofs.Names.KeptWaiting.{task-known, protected-known, derived-known, package-known}
 use Rattle.source_laws.proofs.Names.Kept.{known_at}
@@ -48,7 +54,9 @@ exports_of = map (λ o. o.exports)
 -- those that say nothing of privacy
 flags-same : (passed : ℕ) (bs : List Before) (b c : Before) → ((k : ℕ) → is_private_behind k b ≡ is_private_behind k c) → flags passed bs b ≡ flags passed bs c
 flags-same passed [] b c same = refl
-flags-same passed (x ∷ bs) b c same = ap (λ t. (shows x && not t) ∷ flags (suc passed) bs b) (same passed) ∙ ap (λ fs. (shows x && not (is_private_behind passed c)) ∷ fs) (flags-same (suc passed) bs b c same)
+flags-same passed (x ∷ bs) b c same =
+    ap (λ t. (shows x && not t) ∷ flags (suc passed) bs b) (same passed)
+    ∙ ap (λ fs. (shows x && not (is_private_behind passed c)) ∷ fs) (flags-same (suc passed) bs b c same)
 
 flags-inner : (passed : ℕ) (bs : List Before) (r : Region) (before : Before) → flags (suc passed) bs (begins r ∷ before) ≡ flags passed bs before
 flags-inner passed [] r before = refl
@@ -73,7 +81,9 @@ unfolding Closed first_body body_apart
 closed-first e None i scope n = refl
 closed-first e (Some region) i scope n = go (has_body n e)
   where
-    go : (b : Bool) → exports_of (known (cond b (body_apart (Some e) i scope (seen_again n region) n) (body_of_unit e region i scope n))).opened ≡ false ∷ exports_of (known n).opened
+    go : (b : Bool)
+        → exports_of (known (cond b (body_apart (Some e) i scope (seen_again n region) n) (body_of_unit e region i scope n))).opened
+        ≡ false ∷ exports_of (known n).opened
     go true = refl
     go false = ap (λ k. exports_of k.opened) (known-body_of_unit e region i scope n)
 
@@ -86,7 +96,9 @@ closed-here : (kind : UnitKind) (e : ℕ) (i : Identifier) (scope : Option ℕ) 
 unfolding Closed body_here body_apart
 closed-here kind e i scope n = go (is_unit kind n e)
   where
-    go : (b : Bool) → exports_of (known (cond b (first_body e (region_of_entity n e) i scope (noted i.place (denotes.Entity e) n)) (body_apart None i scope [] n))).opened ≡ false ∷ exports_of (known n).opened
+    go : (b : Bool)
+        → exports_of (known (cond b (first_body e (region_of_entity n e) i scope (noted i.place (denotes.Entity e) n)) (body_apart None i scope [] n))).opened
+        ≡ false ∷ exports_of (known n).opened
     go true = closed-first e (region_of_entity n e) i scope (noted i.place (denotes.Entity e) n)
     go false = refl
 
@@ -95,7 +107,9 @@ unfolding Closed body_elsewhere body_apart
 closed-elsewhere kind None i scope n = refl
 closed-elsewhere kind (Some e) i scope n = go (is_unit kind n e)
   where
-    go : (b : Bool) → exports_of (known (cond b (later_body e (region_of_entity n e) i scope n) (body_apart None i scope [] n))).opened ≡ false ∷ exports_of (known n).opened
+    go : (b : Bool)
+        → exports_of (known (cond b (later_body e (region_of_entity n e) i scope n) (body_apart None i scope [] n))).opened
+        ≡ false ∷ exports_of (known n).opened
     go true = closed-later e (region_of_entity n e) i scope n
     go false = refl
 
@@ -157,13 +171,15 @@ abbrev pub FlagsKept : ℕ → Before → Type 0
 FlagsKept last before = exports_of (known_at last before).opened ≡ flags 0 (around before) before
 
 -- an occurrence that leaves the open regions
-flags-stay : (last : ℕ) (o : Occurrence) (before : Before) → FlagsKept last before → exports_of (known_at last (o ∷ before)).opened ≡ exports_of (known_at last before).opened
+flags-stay : (last : ℕ) (o : Occurrence) (before : Before) → FlagsKept last before
+    → exports_of (known_at last (o ∷ before)).opened ≡ exports_of (known_at last before).opened
     → around (o ∷ before) ≡ around before → ((k : ℕ) → is_private_behind k (o ∷ before) ≡ is_private_behind k before) → FlagsKept last (o ∷ before)
 flags-stay last o before k same stays privacy =
     same ∙ (k ∙ (sym (flags-same 0 (around before) (o ∷ before) before privacy) ∙ ap (λ bs. flags 0 bs (o ∷ before)) (sym stays)))
 
 -- the list of flags is never empty
-first_again-exports : (os : List Open) (passed : ℕ) (bs : List Before) (before : Before) → exports_of os ≡ flags passed bs before → exports_of (first_again os) ≡ exports_of os
+first_again-exports : (os : List Open) (passed : ℕ) (bs : List Before) (before : Before) → exports_of os ≡ flags passed bs before
+    → exports_of (first_again os) ≡ exports_of os
 first_again-exports [] passed [] before e = cc
 first_again-exports [] passed (b ∷ bs) before e = cc
 first_again-exports (o ∷ os) passed bs before e = refl
@@ -186,7 +202,8 @@ heads-exports : (i : Identifier) (n : Names) → exports_of (known (headed i n))
 unfolding headed
 heads-exports i n = go (is_some (completed_in n (region_here n) i.text))
   where
-    hidden-exports : (b : Bool) → exports_of (cond b (known n) (with_bound (innermost (known n).opened) i.text None (known n))).opened ≡ exports_of (known n).opened
+    hidden-exports : (b : Bool)
+        → exports_of (cond b (known n) (with_bound (innermost (known n).opened) i.text None (known n))).opened ≡ exports_of (known n).opened
     hidden-exports true = refl
     hidden-exports false = refl
 
@@ -222,24 +239,30 @@ public-around ends before public = absurd public
 public-around private_from_here before public = absurd public
 public-around _ before public = refl
 
-public-flags : (last : ℕ) (o : Occurrence) (before : Before) → IsPublic o → FlagsKept last before → exports_of (known_at last (o ∷ before)).opened ≡ exports_of (known_at last before).opened → FlagsKept last (o ∷ before)
+public-flags : (last : ℕ) (o : Occurrence) (before : Before) → IsPublic o → FlagsKept last before
+    → exports_of (known_at last (o ∷ before)).opened ≡ exports_of (known_at last before).opened → FlagsKept last (o ∷ before)
 public-flags last o before public k same = flags-stay last o before k same (public-around o before public) (public-privacy o before public)
 
-completes-exports : (last : ℕ) (i : Identifier) (s : SubprogramSpecification) (before : Before) → FlagsKept last before → exports_of (known_at last (completes i s ∷ before)).opened ≡ exports_of (known_at last before).opened
+completes-exports : (last : ℕ) (i : Identifier) (s : SubprogramSpecification) (before : Before) → FlagsKept last before
+    → exports_of (known_at last (completes i s ∷ before)).opened ≡ exports_of (known_at last before).opened
 unfolding behind
 completes-exports last i s before k = go (completed_in (table_at last before) (outer (table_at last before)).region i.text) refl
   where
     again : exports_of (first_again (known_at last before).opened) ≡ exports_of (known_at last before).opened
     again = first_again-exports (known_at last before).opened 0 (around before) before k
 
-    go : (e : Option ℕ) → completed_in (table_at last before) (outer (table_at last before)).region i.text ≡ e → exports_of (known_at last (completes i s ∷ before)).opened ≡ exports_of (known_at last before).opened
+    go : (e : Option ℕ) → completed_in (table_at last before) (outer (table_at last before)).region i.text ≡ e
+        → exports_of (known_at last (completes i s ∷ before)).opened ≡ exports_of (known_at last before).opened
     go None e = ap (λ x. exports_of x.opened) (known-body_declared i s (table_at last before) e).2 ∙ again
     go (Some x) e = ap (λ y. exports_of y.opened) (known-completed i s (table_at last before) x e) ∙ again
 
 -- a region that begins, and shows this much
-begun-flags : (last : ℕ) (r : Region) (before : Before) (x : Bool) → FlagsKept last before → shows (begins r ∷ before) ≡ x → exports_of (known_at last (begins r ∷ before)).opened ≡ x ∷ exports_of (known_at last before).opened → FlagsKept last (begins r ∷ before)
+begun-flags : (last : ℕ) (r : Region) (before : Before) (x : Bool) → FlagsKept last before → shows (begins r ∷ before) ≡ x
+    → exports_of (known_at last (begins r ∷ before)).opened ≡ x ∷ exports_of (known_at last before).opened → FlagsKept last (begins r ∷ before)
 begun-flags last r before x k is more =
-    more ∙ (ap (λ fs. x ∷ fs) (k ∙ sym (flags-inner 0 (around before) r before)) ∙ ap (λ t. t ∷ flags 1 (around before) (begins r ∷ before)) (sym (also-true x) ∙ ap (λ t. t && true) (sym is)))
+    more
+    ∙ (ap (λ fs. x ∷ fs) (k ∙ sym (flags-inner 0 (around before) r before))
+    ∙ ap (λ t. t ∷ flags 1 (around before) (begins r ∷ before)) (sym (also-true x) ∙ ap (λ t. t && true) (sym is)))
   where
     also-true : (b : Bool) → (b && true) ≡ b
     also-true true = refl
@@ -251,7 +274,9 @@ flags-settled last (begins r) before fits here k = begun-flags last r before fal
 flags-settled last ends before fits here k =
     ap (λ x. exports_of x.opened) (known-ended (table_at last before))
     ∙ (outside-exports (known_at last before).opened
-    ∙ (ap rest_of k ∙ (still (around before) here ∙ (sym (flags-ended 0 (all_but_innermost (around before)) before) ∙ ap (λ bs. flags 0 bs (ends ∷ before)) (sym (behind-one_more 0 before))))))
+    ∙ (ap rest_of k
+    ∙ (still (around before) here
+    ∙ (sym (flags-ended 0 (all_but_innermost (around before)) before) ∙ ap (λ bs. flags 0 bs (ends ∷ before)) (sym (behind-one_more 0 before))))))
   where
     still : (bs : List Before) → IsAround bs → rest_of (flags 0 bs before) ≡ flags 1 (all_but_innermost bs) before
     still [] a = absurd a
@@ -269,34 +294,50 @@ flags-settled last private_from_here before fits here k =
     private-first (b ∷ bs) = ap (λ t. t ∷ flags 1 bs before) (sym (never (shows b))) ∙ ap (λ fs. (shows b && false) ∷ fs) (sym (flags-private 0 bs before))
 flags-settled last (hides i) before fits here k = public-flags last (hides i) before tt k (hides-exports i (table_at last before))
 flags-settled last (heads i) before fits here k = public-flags last (heads i) before tt k (heads-exports i (table_at last before))
-flags-settled last (declares i what) before fits here k = public-flags last (declares i what) before tt k (ap (λ x. exports_of x.opened) (known-declared i what (table_at last before) here).2)
-flags-settled last (declares_unit i the_package) before fits here k = public-flags last (declares_unit i the_package) before tt k (ap (λ x. exports_of x.opened) (known-package_declared i (table_at last before)).2)
-flags-settled last (declares_unit i the_main_procedure) before fits here k = public-flags last (declares_unit i the_main_procedure) before tt k (ap (λ x. exports_of x.opened) (known-main_declared i (table_at last before)).2)
+flags-settled last (declares i what) before fits here k =
+    public-flags last (declares i what) before tt k (ap (λ x. exports_of x.opened) (known-declared i what (table_at last before) here).2)
+flags-settled last (declares_unit i the_package) before fits here k =
+    public-flags last (declares_unit i the_package) before tt k (ap (λ x. exports_of x.opened) (known-package_declared i (table_at last before)).2)
+flags-settled last (declares_unit i the_main_procedure) before fits here k =
+    public-flags last (declares_unit i the_main_procedure) before tt k (ap (λ x. exports_of x.opened) (known-main_declared i (table_at last before)).2)
 flags-settled last (declares_unit i _) before fits here k = absurd here
 flags-settled last (completes i s) before fits here k = public-flags last (completes i s) before tt k (completes-exports last i s before k)
 flags-settled last (is_called i) before fits here k =
-    public-flags last (is_called i) before tt k (ap (λ x. exports_of x.opened) (known-named_as i (table_at last before)) ∙ first_again-exports (known_at last before).opened 0 (around before) before k)
-flags-settled last (mentions name) before fits here k = public-flags last (mentions name) before tt k (ap (λ x. exports_of x.opened) (known-name_resolved name (table_at last before)))
-flags-settled last (mentions_simply i) before fits here k = public-flags last (mentions_simply i) before tt k (ap (λ x. exports_of x.opened) (known-resolved i (table_at last before)))
-flags-settled last (mentions_entry i) before fits here k = public-flags last (mentions_entry i) before tt k (ap (λ x. exports_of x.opened) (known-entry_mentioned i (table_at last before)))
-flags-settled last (with_unit name) before fits here k = public-flags last (with_unit name) before tt k (ap (λ x. exports_of x.opened) (known-withed name (library_unit (table_at last before) name) (table_at last before)))
-flags-settled last (use_package name) before fits here k = public-flags last (use_package name) before tt k (ap (λ x. exports_of x.opened) (known-used name (table_at last before)))
+    public-flags last (is_called i) before tt k
+    (ap (λ x. exports_of x.opened) (known-named_as i (table_at last before)) ∙ first_again-exports (known_at last before).opened 0 (around before) before k)
+flags-settled last (mentions name) before fits here k =
+    public-flags last (mentions name) before tt k (ap (λ x. exports_of x.opened) (known-name_resolved name (table_at last before)))
+flags-settled last (mentions_simply i) before fits here k =
+    public-flags last (mentions_simply i) before tt k (ap (λ x. exports_of x.opened) (known-resolved i (table_at last before)))
+flags-settled last (mentions_entry i) before fits here k =
+    public-flags last (mentions_entry i) before tt k (ap (λ x. exports_of x.opened) (known-entry_mentioned i (table_at last before)))
+flags-settled last (with_unit name) before fits here k =
+    public-flags last (with_unit name) before tt k
+    (ap (λ x. exports_of x.opened) (known-withed name (library_unit (table_at last before) name) (table_at last before)))
+flags-settled last (use_package name) before fits here k =
+    public-flags last (use_package name) before tt k (ap (λ x. exports_of x.opened) (known-used name (table_at last before)))
 
 pub some-region : (a b : Region) → Some a ≡ Some b → a ≡ b
 some-region a b e = cc
 
 flags-next : (last : ℕ) (d : Occurrence) (b : Before) (r : Region) → region_behind_it d ≡ Some r → FlagsKept last (d ∷ b) → FlagsKept last (begins r ∷ d ∷ b)
-flags-next last (declares i (a_task is_type aspects)) b r e k = subst (λ z. FlagsKept last (begins z ∷ declares i (a_task is_type aspects) ∷ b)) (some-region (a_unit i) r e)
+flags-next last (declares i (a_task is_type aspects)) b r e k =
+    subst (λ z. FlagsKept last (begins z ∷ declares i (a_task is_type aspects) ∷ b)) (some-region (a_unit i) r e)
     (begun-flags last (a_unit i) (declares i (a_task is_type aspects) ∷ b) true k refl (ap (λ x. exports_of x.opened) (task-known last i b is_type aspects)))
-flags-next last (declares i (a_protected is_type aspects)) b r e k = subst (λ z. FlagsKept last (begins z ∷ declares i (a_protected is_type aspects) ∷ b)) (some-region (a_unit i) r e)
-    (begun-flags last (a_unit i) (declares i (a_protected is_type aspects) ∷ b) true k refl (ap (λ x. exports_of x.opened) (protected-known last i b is_type aspects)))
-flags-next last (declares i (a_derived_type parent)) b r e k = subst (λ z. FlagsKept last (begins z ∷ declares i (a_derived_type parent) ∷ b)) (some-region (a_record i) r e)
+flags-next last (declares i (a_protected is_type aspects)) b r e k =
+    subst (λ z. FlagsKept last (begins z ∷ declares i (a_protected is_type aspects) ∷ b)) (some-region (a_unit i) r e)
+    (begun-flags last (a_unit i) (declares i (a_protected is_type aspects) ∷ b) true k refl
+    (ap (λ x. exports_of x.opened) (protected-known last i b is_type aspects)))
+flags-next last (declares i (a_derived_type parent)) b r e k =
+    subst (λ z. FlagsKept last (begins z ∷ declares i (a_derived_type parent) ∷ b)) (some-region (a_record i) r e)
     (begun-flags last (a_record i) (declares i (a_derived_type parent) ∷ b) true k refl (ap (λ x. exports_of x.opened) (derived-known last i b parent)))
-flags-next last (declares_unit i the_package) b r e k = subst (λ z. FlagsKept last (begins z ∷ declares_unit i the_package ∷ b)) (some-region (package_region i) r e)
+flags-next last (declares_unit i the_package) b r e k =
+    subst (λ z. FlagsKept last (begins z ∷ declares_unit i the_package ∷ b)) (some-region (package_region i) r e)
     (begun-flags last (package_region i) (declares_unit i the_package ∷ b) true k refl (ap (λ x. exports_of x.opened) (package-known last i b)))
 flags-next last _ b r e k = absurd (none-some r e)
 
-flags-by : (last : ℕ) (o d : Occurrence) (b : Before) → IsText (o ∷ d ∷ b) → FlagsKept last (d ∷ b) → (r : Option Region) → region_behind_it d ≡ r → FlagsKept last (o ∷ d ∷ b)
+flags-by : (last : ℕ) (o d : Occurrence) (b : Before) → IsText (o ∷ d ∷ b) → FlagsKept last (d ∷ b) → (r : Option Region) → region_behind_it d ≡ r
+    → FlagsKept last (o ∷ d ∷ b)
 flags-by last o d b t k None e = flags-settled last o (d ∷ b) (subst (λ r. FitsBehind r o) e t.0) t.1 k
 flags-by last o d b t k (Some r) e =
     let begun : o ≡ begins r = subst (λ z. FitsBehind z o) e t.0 in subst (λ z. FlagsKept last (z ∷ d ∷ b)) (sym begun) (flags-next last d b r e k)

@@ -1,10 +1,13 @@
 -- The number of a region tells where it first began: a body's is that of its declaration. No region of another sort has the number
 -- of a context with clauses, and none has that of Standard.
-use Rattle.std.proofs.Common.{◌≡◌, ◌⊎◌, inl, inr, ℕ, ◌<◌, zero, suc, Bool, true, false, List, [], ◌∷◌, length, Option, Some, None, eqb, refl, sym, ap, subst, ◌∙◌, arith, ne_eqb}
+use Rattle.std.proofs.Common.{◌≡◌, ◌⊎◌, inl, inr, ℕ, ◌<◌, zero, suc, Bool, true, false, List, [], ◌∷◌}
+use Rattle.std.proofs.Common.{length, Option, Some, None, eqb, refl, sym, ap, subst, ◌∙◌, arith, ne_eqb}
 use Rattle.ada_tree.specs.declared.names.Identifier.{Identifier}
 use Rattle.ada_regions.specs.declared.entities.UnitKind.{UnitKind}
 use Rattle.ada_regions.specs.declared.entities.UnitKind.TheVariants as unit
-use Rattle.ada_regions.specs.Occurrences.{Occurrence, Region, the_package, a_derived_type, a_task, a_protected, the_context, the_context_of, further_context, package_region, package_body, main_body, a_profile, subprogram_body, a_unit, task_body, protected_body, entry_body, an_accept, a_block, a_loop, a_record, begins, ends, declares, declares_unit, with_unit, use_package}
+use Rattle.ada_regions.specs.Occurrences.{Occurrence, Region, the_package, a_derived_type, a_task, a_protected, the_context, the_context_of, further_context}
+use Rattle.ada_regions.specs.Occurrences.{package_region, package_body, main_body, a_profile, subprogram_body, a_unit, task_body, protected_body, entry_body}
+use Rattle.ada_regions.specs.Occurrences.{an_accept, a_block, a_loop, a_record, begins, ends, declares, declares_unit, with_unit, use_package}
 use Rattle.source_laws.specs.Positions.{Before, Stands, around_behind, around}
 use Rattle.source_laws.specs.Declarations.{is_package, is_unit_of, declaration, declares_name, if_so}
 use Rattle.source_laws.specs.Regions.{number_of_innermost, region_of_position, number_of, package_declared, region_behind, context_around}
@@ -35,7 +38,8 @@ stands-either b d (o ∷ c) (inr s) (inl q) = inl (subst (λ z. Stands b z) (sym
 stands-either b d (o ∷ c) (inr s) (inr t) = stands-either b d c s t
 
 -- a region around began with its beginning
-pub around-begins : (passed : ℕ) (before x : Before) (xs : List Before) → around_behind passed before ≡ x ∷ xs → (r : Region) × (c : Before) × (x ≡ begins r ∷ c)
+pub around-begins : (passed : ℕ) (before x : Before) (xs : List Before) → around_behind passed before ≡ x ∷ xs
+    → (r : Region) × (c : Before) × (x ≡ begins r ∷ c)
 around-begins passed [] x xs e = cc
 around-begins zero (begins r ∷ before) x xs e = (r, before, (let h : begins r ∷ before ≡ x = cc in sym h))
 around-begins (suc passed) (begins r ∷ before) x xs e = around-begins passed before x xs e
@@ -83,24 +87,34 @@ pub record Founder (number : ℕ) (before : Before) : Type 0 where
   pub no_context : is_context first ≡ false
 
 pub farther-founder : (number : ℕ) (b before : Before) → Stands b before → Founder number b → Founder number before
-farther-founder number b before s f = record { first = f.first; stands = stands-trans f.first b before f.stands s; long = f.long; begun = f.begun; no_context = f.no_context }
+farther-founder number b before s f = record {
+  first = f.first;
+  stands = stands-trans f.first b before f.stands s;
+  long = f.long;
+  begun = f.begun;
+  no_context = f.no_context;
+}
 
-own-founder : (r : Region) (before : Before) → number_of (begins r ∷ before) ≡ suc (length before) → is_context (begins r ∷ before) ≡ false → Founder (number_of (begins r ∷ before)) (begins r ∷ before)
+own-founder : (r : Region) (before : Before) → number_of (begins r ∷ before) ≡ suc (length before) → is_context (begins r ∷ before) ≡ false
+    → Founder (number_of (begins r ∷ before)) (begins r ∷ before)
 own-founder r before number none = record { first = begins r ∷ before; stands = inl refl; long = number; begun = λ e. omega arith; no_context = none }
 
 package-next : (o : Occurrence) → is_package o ≡ true → (q : Region) × (region_behind_it o ≡ Some q) × ((b : Before) → is_context (begins q ∷ b) ≡ false)
 package-next (declares_unit j the_package) e = (package_region j, refl, λ b. refl)
 package-next _ e = absurd (false-true e)
 
-unit-next : (kind : UnitKind) (o : Occurrence) → is_unit_of kind o ≡ true → (q : Region) × (region_behind_it o ≡ Some q) × ((b : Before) → is_context (begins q ∷ b) ≡ false)
+unit-next : (kind : UnitKind) (o : Occurrence) → is_unit_of kind o ≡ true
+    → (q : Region) × (region_behind_it o ≡ Some q) × ((b : Before) → is_context (begins q ∷ b) ≡ false)
 unit-next kind (declares j (a_task is_type aspects)) e = (a_unit j, refl, λ b. refl)
 unit-next kind (declares j (a_protected is_type aspects)) e = (a_unit j, refl, λ b. refl)
 unit-next kind _ e = absurd (false-true e)
 
 -- a body of what the test finds
 module _ (r : Region) (before : Before) (t : IsText before) (settled : begins_next before ≡ None) (test : Occurrence → Bool) (region : ℕ) (name : List ℕ)
-    (next : (o : Occurrence) → test o ≡ true → (q : Region) × (region_behind_it o ≡ Some q) × ((b : Before) → is_context (begins q ∷ b) ≡ false)) (none : is_context (begins r ∷ before) ≡ false) where
-  behind-founder : (x : Option Before) → if_so test (declaration number_of_innermost region name before) ≡ x → number_of (begins r ∷ before) ≡ region_behind number_of_innermost x (suc (length before)) → Founder (number_of (begins r ∷ before)) (begins r ∷ before)
+    (next : (o : Occurrence) → test o ≡ true → (q : Region) × (region_behind_it o ≡ Some q) × ((b : Before) → is_context (begins q ∷ b) ≡ false))
+    (none : is_context (begins r ∷ before) ≡ false) where
+  behind-founder : (x : Option Before) → if_so test (declaration number_of_innermost region name before) ≡ x
+      → number_of (begins r ∷ before) ≡ region_behind number_of_innermost x (suc (length before)) → Founder (number_of (begins r ∷ before)) (begins r ∷ before)
   behind-founder None e number = own-founder r before number none
   behind-founder (Some d) e number =
       let f = if_so-found test (declaration number_of_innermost region name before) d e in
@@ -119,17 +133,22 @@ founder the_context before is t = absurd is
 founder (the_context_of i) before is t = absurd is
 founder further_context before is t = absurd is
 founder (package_body i) before is t =
-    behind-founder (package_body i) before t.2 (settled-behind (package_body i) before t.0 refl) is_package 0 i.text package-next refl _ refl (number-beginning (begins (package_body i)) before)
+    behind-founder (package_body i) before t.2 (settled-behind (package_body i) before t.0 refl) is_package 0 i.text package-next refl _ refl
+    (number-beginning (begins (package_body i)) before)
 founder (task_body i place) before is t =
-    behind-founder (task_body i place) before t.2 (settled-behind (task_body i place) before t.0 refl) (is_unit_of unit.Task) (region_of_position before) i.text (unit-next unit.Task) refl _ refl (number-beginning (begins (task_body i place)) before)
+    behind-founder (task_body i place) before t.2 (settled-behind (task_body i place) before t.0 refl) (is_unit_of unit.Task) (region_of_position before) i.text
+    (unit-next unit.Task) refl _ refl (number-beginning (begins (task_body i place)) before)
 founder (protected_body i) before is t =
-    behind-founder (protected_body i) before t.2 (settled-behind (protected_body i) before t.0 refl) (is_unit_of unit.Protected) (region_of_position before) i.text (unit-next unit.Protected) refl _ refl (number-beginning (begins (protected_body i)) before)
+    behind-founder (protected_body i) before t.2 (settled-behind (protected_body i) before t.0 refl) (is_unit_of unit.Protected)
+    (region_of_position before) i.text (unit-next unit.Protected) refl _ refl (number-beginning (begins (protected_body i)) before)
 founder (package_region i) before is t = own-founder (package_region i) before (number-beginning (begins (package_region i)) before) refl
 founder (main_body i place) before is t = own-founder (main_body i place) before (number-beginning (begins (main_body i place)) before) refl
 founder a_profile before is t = own-founder a_profile before (number-beginning (begins a_profile) before) refl
-founder (subprogram_body place is_function) before is t = own-founder (subprogram_body place is_function) before (number-beginning (begins (subprogram_body place is_function)) before) refl
+founder (subprogram_body place is_function) before is t =
+    own-founder (subprogram_body place is_function) before (number-beginning (begins (subprogram_body place is_function)) before) refl
 founder (a_unit i) before is t = own-founder (a_unit i) before (number-beginning (begins (a_unit i)) before) refl
-founder (entry_body i place barrier) before is t = own-founder (entry_body i place barrier) before (number-beginning (begins (entry_body i place barrier)) before) refl
+founder (entry_body i place barrier) before is t =
+    own-founder (entry_body i place barrier) before (number-beginning (begins (entry_body i place barrier)) before) refl
 founder (an_accept i place) before is t = own-founder (an_accept i place) before (number-beginning (begins (an_accept i place)) before) refl
 founder (a_block label place) before is t = own-founder (a_block label place) before (number-beginning (begins (a_block label place)) before) refl
 founder (a_loop label) before is t = own-founder (a_loop label) before (number-beginning (begins (a_loop label)) before) refl
@@ -156,7 +175,8 @@ begun-clauses o b number context = record { first = o ∷ b; stands = inl refl; 
     clauses x (inl e) lt = let h : length x ≡ suc (length b) = ap length e in absurd (omega arith)
     clauses x (inr s) lt = let h = stands-length x b s in absurd (omega arith)
 
-more-clauses : (o : Occurrence) (b : Before) → region_of_position (o ∷ b) ≡ region_of_position b → is_clause (o ∷ b) ≡ true → ClauseFounder b → ClauseFounder (o ∷ b)
+more-clauses : (o : Occurrence) (b : Before) → region_of_position (o ∷ b) ≡ region_of_position b → is_clause (o ∷ b) ≡ true → ClauseFounder b
+    → ClauseFounder (o ∷ b)
 more-clauses o b same is f = record { first = f.first; stands = inr f.stands; number = same ∙ f.number; context = f.context; clauses = clauses }
   where
     clauses : (x : Before) → Stands x (o ∷ b) → length f.first < length x → is_clause x ≡ true
@@ -188,13 +208,15 @@ pub record PackageHome (i : Identifier) (b : Before) : Type 0 where
 pub package-home : (i : Identifier) (b : Before) → Placed (declares_unit i the_package) b → PackageHome i b
 package-home i b p = record { context = p.0; alone = p.1; number = ap number_of_innermost p.1 ∙ number-beginning (begins the_context) p.0 }
 
-context-positive : (i : Identifier) (before : Before) → IsPlaced before → (x : Option Before) → package_declared number_of_innermost i.text before ≡ x → context_around number_of_innermost x (suc (length before)) ≡ 0 → ⊥
+context-positive : (i : Identifier) (before : Before) → IsPlaced before → (x : Option Before) → package_declared number_of_innermost i.text before ≡ x
+    → context_around number_of_innermost x (suc (length before)) ≡ 0 → ⊥
 context-positive i before p None e q = omega arith
 context-positive i before p (Some d) e q =
     let f = if_so-found is_package (declaration number_of_innermost 0 i.text before) d e in
     let stands : Stands (f.0 ∷ f.1) before = nearest-stands (declares_name number_of_innermost 0 i.text) before (f.0 ∷ f.1) f.2 in
     let placed : Placed f.0 f.1 = (placed-stands (f.0 ∷ f.1) before stands p).0 in
-    package-shape (λ o. Placed o f.1 → number_of_innermost (around (o ∷ f.1)) ≡ 0 → ⊥) (λ j h z. (let n = (package-home j f.1 h).number in omega arith)) f.0 f.3 placed (ap (λ z. number_of_innermost (around z)) (sym f.4) ∙ q)
+    package-shape (λ o. Placed o f.1 → number_of_innermost (around (o ∷ f.1)) ≡ 0 → ⊥)
+    (λ j h z. (let n = (package-home j f.1 h).number in omega arith)) f.0 f.3 placed (ap (λ z. number_of_innermost (around z)) (sym f.4) ∙ q)
 
 founded : (r : Region) (before : Before) → IsNoContext r → IsText (begins r ∷ before) → number_of (begins r ∷ before) ≡ 0 → ⊥
 founded r before is t e = let f = founder r before is t in f.begun (sym f.long ∙ e)

@@ -35,11 +35,18 @@ use Rattle.ada_tree.specs.declared.statements.HandledExceptions.TheVariants as e
 use Rattle.ada_tree.specs.declared.selects.Guard.{Guard}
 use Rattle.ada_tree.specs.declared.selects.Trigger.{Trigger}
 use Rattle.ada_tree.specs.declared.selects.Trigger.TheVariants as trigger
-use Rattle.ada_regions.specs.Occurrences.{Declared, an_object, a_component, a_parameter, a_loop_parameter, an_enumeration, a_literal, an_array, a_derived_type, a_subtype, a_label, a_subprogram, an_entry, a_task, a_protected, a_profile, a_unit, a_record, private_from_here, hides, declares, mentions, mentions_simply, in_all, if_there, one, hides_all, declares_all}
+use Rattle.ada_regions.specs.Occurrences.{Declared, an_object, a_component, a_parameter, a_loop_parameter, an_enumeration, a_literal, an_array}
+use Rattle.ada_regions.specs.Occurrences.{a_derived_type, a_subtype, a_label, a_subprogram, an_entry, a_task, a_protected, a_profile, a_unit, a_record}
+use Rattle.ada_regions.specs.Occurrences.{private_from_here, hides, declares, mentions, mentions_simply, in_all, if_there, one, hides_all, declares_all}
 use Rattle.ada_regions.specs.NamesInExpressions.{names_in_expression, names_in_argument, names_in_arguments}
-use Rattle.ada_regions.specs.NamesInStatements.{names_in_constraint, names_in_indication, names_in_parameter, names_in_parameters, names_in_assignment, names_in_call, names_in_delay, names_in_choice, names_in_iteration, names_in_exit, names_in_exceptions, names_in_guard, names_in_trigger, declares_label}
-use Rattle.ada_regions.specs.NamesInDeclarations.{names_in_object, names_in_component, names_in_definition, names_in_subtype, names_in_aspect, names_in_aspects, names_in_profile, names_in_specification, names_in_entry, names_in_task_definition, names_in_task, names_in_operation, names_in_private, names_in_protected}
-use Rattle.source_laws.proofs.Names.Texts.{Inside, inside-none, inside-append, inside-one, inside-cons, inside-region, inside-declared_region, inside-flat, inside-in_all, inside-if_there, IsPlainDeclared}
+use Rattle.ada_regions.specs.NamesInStatements.{names_in_constraint, names_in_indication, names_in_parameter, names_in_parameters}
+use Rattle.ada_regions.specs.NamesInStatements.{names_in_assignment, names_in_call, names_in_delay, names_in_choice, names_in_iteration}
+use Rattle.ada_regions.specs.NamesInStatements.{names_in_exit, names_in_exceptions, names_in_guard, names_in_trigger, declares_label}
+use Rattle.ada_regions.specs.NamesInDeclarations.{names_in_object, names_in_component, names_in_definition, names_in_subtype, names_in_aspect}
+use Rattle.ada_regions.specs.NamesInDeclarations.{names_in_aspects, names_in_profile, names_in_specification, names_in_entry}
+use Rattle.ada_regions.specs.NamesInDeclarations.{names_in_task_definition, names_in_task, names_in_operation, names_in_private, names_in_protected}
+use Rattle.source_laws.proofs.Names.Texts.{Inside, inside-none, inside-append, inside-one, inside-cons, inside-region}
+use Rattle.source_laws.proofs.Names.Texts.{inside-declared_region, inside-flat, inside-in_all, inside-if_there, IsPlainDeclared}
 use Rattle.source_laws.proofs.Names.Expressions.{inside-expression}
 
 pub inside-optional : (e : Option Expression) → Inside (if_there names_in_expression e)
@@ -90,10 +97,13 @@ pub inside-iteration : (i : Iteration) → Inside (names_in_iteration i)
 inside-iteration iteration.Forever = inside-none
 inside-iteration (iteration.While place condition) = inside-expression condition
 inside-iteration (iteration.For place parameter reverse low high) =
-    inside-cons (hides parameter) _ tt (inside-append _ _ (inside-expression low) (inside-append _ _ (inside-expression high) (inside-one (declares parameter a_loop_parameter) tt)))
+    inside-cons (hides parameter) _ tt
+    (inside-append _ _ (inside-expression low) (inside-append _ _ (inside-expression high) (inside-one (declares parameter a_loop_parameter) tt)))
 
 pub inside-exit : (e : Exit) → Inside (names_in_exit e)
-inside-exit e = inside-append _ _ (inside-if_there (λ name. one (mentions_simply name)) (λ name. inside-one (mentions_simply name) tt) e.loop_name) (inside-optional e.condition)
+inside-exit e =
+    inside-append _ _ (inside-if_there (λ name. one (mentions_simply name)) (λ name. inside-one (mentions_simply name) tt) e.loop_name)
+    (inside-optional e.condition)
 
 pub inside-exceptions : (e : HandledExceptions) → Inside (names_in_exceptions e)
 inside-exceptions (exceptions.Named names) = inside-in_all (λ name. one (mentions name)) (λ name. inside-one (mentions name) tt) names
@@ -122,10 +132,13 @@ inside-component c =
     (inside-append _ _ (inside-indication c.subtype) (inside-append _ _ (inside-optional c.initial) (inside-declares_all (a_component c) c.names tt)))
 
 pub inside-definition : (name : Identifier) (d : TypeDefinition) → Inside (names_in_definition name d)
-inside-definition name (definition.Enumeration literals) = inside-cons (declares name (an_enumeration literals)) _ tt (inside-declares_all a_literal literals tt)
+inside-definition name (definition.Enumeration literals) =
+    inside-cons (declares name (an_enumeration literals)) _ tt (inside-declares_all a_literal literals tt)
 inside-definition name (definition.Array low high component) =
     inside-cons (hides name) _ tt
-    (inside-append _ _ (inside-expression low) (inside-append _ _ (inside-expression high) (inside-append _ _ (inside-indication component) (inside-one (declares name (an_array low high component)) tt))))
+    (inside-append _ _ (inside-expression low)
+    (inside-append _ _ (inside-expression high)
+    (inside-append _ _ (inside-indication component) (inside-one (declares name (an_array low high component)) tt))))
 inside-definition name (definition.Derived parent components) =
     inside-cons (hides name) _ tt (inside-cons (mentions parent) _ tt
     (inside-declared_region (declares name (a_derived_type parent)) (a_record name) _ refl tt (λ before. tt) (λ before. refl)
@@ -139,15 +152,18 @@ inside-aspects aspects = inside-flat names_in_aspect (λ a. inside-optional a.va
 
 pub inside-profile : (with_cells : Bool) (s : SubprogramSpecification) → Inside (names_in_profile with_cells s)
 inside-profile with_cells s =
-    inside-append _ _ (inside-parameters with_cells s.parameters) (inside-append _ _ (inside-if_there names_in_indication inside-indication s.result) (inside-aspects s.aspects))
+    inside-append _ _ (inside-parameters with_cells s.parameters)
+    (inside-append _ _ (inside-if_there names_in_indication inside-indication s.result) (inside-aspects s.aspects))
 
 pub inside-specification : (s : SubprogramSpecification) → Inside (names_in_specification s)
 inside-specification s =
-    inside-cons (hides s.name) _ tt (inside-append _ _ (inside-region a_profile _ tt (inside-profile false s)) (inside-one (declares s.name (a_subprogram s)) tt))
+    inside-cons (hides s.name) _ tt
+    (inside-append _ _ (inside-region a_profile _ tt (inside-profile false s)) (inside-one (declares s.name (a_subprogram s)) tt))
 
 pub inside-entry : (e : EntryDeclaration) → Inside (names_in_entry e)
 inside-entry e =
-    inside-cons (hides e.name) _ tt (inside-append _ _ (inside-region a_profile _ tt (inside-parameters false e.parameters)) (inside-one (declares e.name (an_entry e.parameters)) tt))
+    inside-cons (hides e.name) _ tt
+    (inside-append _ _ (inside-region a_profile _ tt (inside-parameters false e.parameters)) (inside-one (declares e.name (an_entry e.parameters)) tt))
 
 inside-task_definition : (d : TaskDefinition) → Inside (names_in_task_definition d)
 inside-task_definition d = inside-flat names_in_entry inside-entry d.entries

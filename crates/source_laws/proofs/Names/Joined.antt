@@ -1,6 +1,7 @@
 -- What use clauses make visible together: the table joins what each shows, and by position it is listed, each meaning once. Both
 -- tell one set, in which neither order nor repetition matters.
-use Rattle.std.proofs.Common.{◌≡◌, ◌⊎◌, inl, inr, ℕ, Bool, true, false, cond, ◌||◌, List, [], ◌∷◌, map, Option, Some, None, unwrap_or, slice_get, eqb, refl, sym, ap, subst, ◌∙◌, eqb-true, eq-eqb}
+use Rattle.std.proofs.Common.{◌≡◌, ◌⊎◌, inl, inr, ℕ, Bool, true, false, cond, ◌||◌, List, [], ◌∷◌, map, Option}
+use Rattle.std.proofs.Common.{Some, None, unwrap_or, slice_get, eqb, refl, sym, ap, subst, ◌∙◌, eqb-true, eq-eqb}
 use borrow.Author.Tests.{eqb-false}
 use Rattle.std.specs.List.{list_any}
 use Rattle.ada_tree.specs.declared.names.Name.{Name}
@@ -28,7 +29,8 @@ use Rattle.source_laws.proofs.Names.Denoting.{same_place-path, same_place-itself
 
 all_units : List PredefinedUnit
 all_units =
-    units.Standard ∷ units.Ada ∷ units.System ∷ units.TextIo ∷ units.RealTime ∷ units.TimingEvents ∷ units.ExecutionTime ∷ units.Timers ∷ units.GroupBudgets ∷ units.DynamicPriorities
+    units.Standard ∷ units.Ada ∷ units.System ∷ units.TextIo ∷ units.RealTime ∷ units.TimingEvents ∷ units.ExecutionTime ∷ units.Timers ∷ units.GroupBudgets
+    ∷ units.DynamicPriorities
     ∷ units.TaskIdentification ∷ units.Dispatching ∷ units.RoundRobin ∷ units.Edf ∷ units.Finalization ∷ units.ScriptPorts ∷ []
 
 unit_numbered : ℕ → PredefinedUnit
@@ -99,7 +101,8 @@ tells-as answer.Ambiguous A B to from t = (t.0, t.1, to t.0 t.2, to t.1 t.3, t.4
 some-denoted : (a b : Denoted) → Some a ≡ Some b → a ≡ b
 some-denoted a b e = cc
 
-joined-found : (d e : Denoted) (A : Denoted → Type 0) → A e → ((x : Denoted) → A x → same_denoted x e ≡ true) → (t : Bool) → same_denoted d e ≡ t → Tells (cond t (answer.Found e) answer.Ambiguous) (λ x. (Some d ≡ Some x) ⊎ A x)
+joined-found : (d e : Denoted) (A : Denoted → Type 0) → A e → ((x : Denoted) → A x → same_denoted x e ≡ true) → (t : Bool) → same_denoted d e ≡ t
+    → Tells (cond t (answer.Found e) answer.Ambiguous) (λ x. (Some d ≡ Some x) ⊎ A x)
 joined-found d e A has all true same = (inr has, every)
   where
     every : (x : Denoted) → (Some d ≡ Some x) ⊎ A x → same_denoted x e ≡ true
@@ -133,27 +136,33 @@ module _ (n : Names) (name : List ℕ) where
   Shown region [] Others d = Others d
   Shown region (u ∷ us) Others d = ((u.region ≡ region) × (visible_in n name u.used ≡ Some d)) ⊎ Shown region us Others d
 
-  tells-shown : (region : ℕ) (us : List UseClause) (others : Sought) (Others : Denoted → Type 0) → Tells others Others → Tells (used_in n name region us others) (Shown region us Others)
+  tells-shown : (region : ℕ) (us : List UseClause) (others : Sought) (Others : Denoted → Type 0) → Tells others Others
+      → Tells (used_in n name region us others) (Shown region us Others)
   unfolding Shown
   tells-shown region [] others Others t = t
   tells-shown region (u ∷ us) others Others t = go (eqb u.region region) refl (tells-shown region us others Others t)
     where
-      both : u.region ≡ region → (d : Denoted) → (visible_in n name u.used ≡ Some d) ⊎ Shown region us Others d → ((u.region ≡ region) × (visible_in n name u.used ≡ Some d)) ⊎ Shown region us Others d
+      both : u.region ≡ region → (d : Denoted) → (visible_in n name u.used ≡ Some d) ⊎ Shown region us Others d
+          → ((u.region ≡ region) × (visible_in n name u.used ≡ Some d)) ⊎ Shown region us Others d
       both e d (inl q) = inl (e, q)
       both e d (inr q) = inr q
 
-      first : (d : Denoted) → ((u.region ≡ region) × (visible_in n name u.used ≡ Some d)) ⊎ Shown region us Others d → (visible_in n name u.used ≡ Some d) ⊎ Shown region us Others d
+      first : (d : Denoted) → ((u.region ≡ region) × (visible_in n name u.used ≡ Some d)) ⊎ Shown region us Others d
+          → (visible_in n name u.used ≡ Some d) ⊎ Shown region us Others d
       first d (inl q) = inl q.1
       first d (inr q) = inr q
 
-      away : (u.region ≡ region → ⊥) → (d : Denoted) → ((u.region ≡ region) × (visible_in n name u.used ≡ Some d)) ⊎ Shown region us Others d → Shown region us Others d
+      away : (u.region ≡ region → ⊥) → (d : Denoted) → ((u.region ≡ region) × (visible_in n name u.used ≡ Some d)) ⊎ Shown region us Others d
+          → Shown region us Others d
       away other d (inl q) = absurd (other q.0)
       away other d (inr q) = q
 
       go : (t : Bool) → eqb u.region region ≡ t → Tells (used_in n name region us others) (Shown region us Others)
-          → Tells (cond t (joined_if (visible_in n name u.used) (used_in n name region us others)) (used_in n name region us others)) (λ d. ((u.region ≡ region) × (visible_in n name u.used ≡ Some d)) ⊎ Shown region us Others d)
+          → Tells (cond t (joined_if (visible_in n name u.used) (used_in n name region us others)) (used_in n name region us others))
+          (λ d. ((u.region ≡ region) × (visible_in n name u.used ≡ Some d)) ⊎ Shown region us Others d)
       go true e more =
-          tells-as (joined_if (visible_in n name u.used) (used_in n name region us others)) (λ d. (visible_in n name u.used ≡ Some d) ⊎ Shown region us Others d) _ (both (eqb-true u.region region e)) first
+          tells-as (joined_if (visible_in n name u.used) (used_in n name region us others))
+          (λ d. (visible_in n name u.used ≡ Some d) ⊎ Shown region us Others d) _ (both (eqb-true u.region region e)) first
           (tells-joined (visible_in n name u.used) (used_in n name region us others) (Shown region us Others) more)
       go false e more = tells-as (used_in n name region us others) (Shown region us Others) _ (λ d q. inr q) (away (eqb-false u.region region e)) more
 
@@ -180,17 +189,20 @@ module _ (n : Names) (name : List ℕ) where
   abbrev pub ShownBy : List ℕ → Denoted → Type 0
   ShownBy rs d = (u : UseClause) × Among u n.uses × Among u.region rs × (visible_in n name u.used ≡ Some d)
 
-  shown-by : (region : ℕ) (us : List UseClause) (Others : Denoted → Type 0) (d : Denoted) → Shown region us Others d → ((u : UseClause) × Among u us × (u.region ≡ region) × (visible_in n name u.used ≡ Some d)) ⊎ Others d
+  shown-by : (region : ℕ) (us : List UseClause) (Others : Denoted → Type 0) (d : Denoted) → Shown region us Others d
+      → ((u : UseClause) × Among u us × (u.region ≡ region) × (visible_in n name u.used ≡ Some d)) ⊎ Others d
   unfolding Shown
   shown-by region [] Others d s = inr s
   shown-by region (u ∷ us) Others d (inl q) = inl (u, inl refl, q.0, q.1)
   shown-by region (u ∷ us) Others d (inr q) = go (shown-by region us Others d q)
     where
-      go : ((v : UseClause) × Among v us × (v.region ≡ region) × (visible_in n name v.used ≡ Some d)) ⊎ Others d → ((v : UseClause) × Among v (u ∷ us) × (v.region ≡ region) × (visible_in n name v.used ≡ Some d)) ⊎ Others d
+      go : ((v : UseClause) × Among v us × (v.region ≡ region) × (visible_in n name v.used ≡ Some d)) ⊎ Others d
+          → ((v : UseClause) × Among v (u ∷ us) × (v.region ≡ region) × (visible_in n name v.used ≡ Some d)) ⊎ Others d
       go (inl h) = inl (h.0, inr h.1, h.2, h.3)
       go (inr h) = inr h
 
-  by-shown : (region : ℕ) (us : List UseClause) (Others : Denoted → Type 0) (u : UseClause) (d : Denoted) → Among u us → u.region ≡ region → visible_in n name u.used ≡ Some d → Shown region us Others d
+  by-shown : (region : ℕ) (us : List UseClause) (Others : Denoted → Type 0) (u : UseClause) (d : Denoted) → Among u us → u.region ≡ region
+      → visible_in n name u.used ≡ Some d → Shown region us Others d
   unfolding Shown
   by-shown region [] Others u d a e v = absurd a
   by-shown region (w ∷ us) Others u d (inl q) e v = inl (ap (λ (z : UseClause). z.region) q ∙ e, ap (λ (z : UseClause). visible_in n name z.used) q ∙ v)
@@ -206,7 +218,8 @@ module _ (n : Names) (name : List ℕ) where
   along-by [] d a = absurd a
   along-by (r ∷ rs) d a = go (shown-by r n.uses (Along rs) d a) (along-by rs d)
     where
-      go : ((u : UseClause) × Among u n.uses × (u.region ≡ r) × (visible_in n name u.used ≡ Some d)) ⊎ Along rs d → (Along rs d → ShownBy rs d) → ShownBy (r ∷ rs) d
+      go : ((u : UseClause) × Among u n.uses × (u.region ≡ r) × (visible_in n name u.used ≡ Some d)) ⊎ Along rs d → (Along rs d → ShownBy rs d)
+          → ShownBy (r ∷ rs) d
       go (inl h) more = (h.0, h.1, inl (sym h.2), h.3)
       go (inr h) more = let m = more h in (m.0, m.1, inr m.2, m.3)
 
@@ -246,7 +259,8 @@ or-first : (x y : Bool) → (x || y) ≡ false → x ≡ false
 or-first true y e = e
 or-first false y e = refl
 
-lists-more : (k : Meaning) (ms : List Meaning) (A : Meaning → Type 0) → Lists ms A → (t : Bool) → list_any (same_meaning k) ms ≡ t → Lists (cond t ms (k ∷ ms)) (λ m. (Some k ≡ Some m) ⊎ A m)
+lists-more : (k : Meaning) (ms : List Meaning) (A : Meaning → Type 0) → Lists ms A → (t : Bool) → list_any (same_meaning k) ms ≡ t
+    → Lists (cond t ms (k ∷ ms)) (λ m. (Some k ≡ Some m) ⊎ A m)
 lists-more k [] A l true e = absurd (false-true e)
 lists-more k [] A l false e = (inl refl, every)
   where
@@ -279,7 +293,8 @@ lists-with (Some k) ms A l = lists-more k ms A l (list_any (same_meaning k) ms) 
 module _ (meaning : Name → Before → Meaning) (last : ℕ) (name : List ℕ) (here : Before) where
   -- a clause that stands before and shows it
   abbrev pub ClauseShows : Before → Meaning → Type 0
-  ClauseShows c m = (p : Name) × (b : Before) × Stands (use_package p ∷ b) c × (stands_around here b ≡ true) × (visible_by last name here (meaning p b) ≡ Some m)
+  ClauseShows c m =
+      (p : Name) × (b : Before) × Stands (use_package p ∷ b) c × (stands_around here b ≡ true) × (visible_by last name here (meaning p b) ≡ Some m)
 
   clause-farther : (o : Occurrence) (c : Before) (m : Meaning) → ClauseShows c m → ClauseShows (o ∷ c) m
   clause-farther o c m s = (s.0, s.1, inr s.2, s.3, s.4)
@@ -295,10 +310,12 @@ module _ (meaning : Name → Before → Meaning) (last : ℕ) (name : List ℕ) 
   lists-farther : (o : Occurrence) (c : Before) (ms : List Meaning) → no_use o → Lists ms (ClauseShows c) → Lists ms (ClauseShows (o ∷ c))
   lists-farther o c ms plain l = lists-as ms (ClauseShows c) (ClauseShows (o ∷ c)) (clause-farther o c) (clause-nearer o c plain) l
 
-  lists-use : (p : Name) (c : Before) (ms : List Meaning) → Lists ms (ClauseShows c) → Lists (cond (stands_around here c) (with_meaning (visible_by last name here (meaning p c)) ms) ms) (ClauseShows (use_package p ∷ c))
+  lists-use : (p : Name) (c : Before) (ms : List Meaning) → Lists ms (ClauseShows c)
+      → Lists (cond (stands_around here c) (with_meaning (visible_by last name here (meaning p c)) ms) ms) (ClauseShows (use_package p ∷ c))
   lists-use p c ms l = go (stands_around here c) refl
     where
-      to : stands_around here c ≡ true → (m : Meaning) → (visible_by last name here (meaning p c) ≡ Some m) ⊎ ClauseShows c m → ClauseShows (use_package p ∷ c) m
+      to : stands_around here c ≡ true → (m : Meaning) → (visible_by last name here (meaning p c) ≡ Some m) ⊎ ClauseShows c m
+          → ClauseShows (use_package p ∷ c) m
       to e m (inl q) = (p, c, inl refl, e, q)
       to e m (inr q) = clause-farther (use_package p) c m q
 
@@ -306,15 +323,20 @@ module _ (meaning : Name → Before → Meaning) (last : ℕ) (name : List ℕ) 
       here-or q b e = (cc, cc)
 
       from : (m : Meaning) → ClauseShows (use_package p ∷ c) m → (visible_by last name here (meaning p c) ≡ Some m) ⊎ ClauseShows c m
-      from m (q, b, inl e, a, v) = let h = here-or q b e in inl (ap (λ z. visible_by last name here (meaning z c)) (sym h.0) ∙ (ap (λ z. visible_by last name here (meaning q z)) (sym h.1) ∙ v))
+      from m (q, b, inl e, a, v) =
+          let h = here-or q b e in
+          inl (ap (λ z. visible_by last name here (meaning z c)) (sym h.0) ∙ (ap (λ z. visible_by last name here (meaning q z)) (sym h.1) ∙ v))
       from m (q, b, inr s, a, v) = inr (q, b, s, a, v)
 
       away : stands_around here c ≡ false → (m : Meaning) → ClauseShows (use_package p ∷ c) m → ClauseShows c m
       away f m (q, b, inl e, a, v) = let h = here-or q b e in absurd (false-true (sym f ∙ (ap (stands_around here) (sym h.1) ∙ a)))
       away f m (q, b, inr s, a, v) = (q, b, s, a, v)
 
-      go : (t : Bool) → stands_around here c ≡ t → Lists (cond t (with_meaning (visible_by last name here (meaning p c)) ms) ms) (ClauseShows (use_package p ∷ c))
-      go true e = lists-as (with_meaning (visible_by last name here (meaning p c)) ms) (λ m. (visible_by last name here (meaning p c) ≡ Some m) ⊎ ClauseShows c m) (ClauseShows (use_package p ∷ c)) (to e) from
+      go : (t : Bool) → stands_around here c ≡ t
+          → Lists (cond t (with_meaning (visible_by last name here (meaning p c)) ms) ms) (ClauseShows (use_package p ∷ c))
+      go true e =
+          lists-as (with_meaning (visible_by last name here (meaning p c)) ms) (λ m. (visible_by last name here (meaning p c) ≡ Some m) ⊎ ClauseShows c m)
+          (ClauseShows (use_package p ∷ c)) (to e) from
           (lists-with (visible_by last name here (meaning p c)) ms (ClauseShows c) l)
       go false e = lists-as ms (ClauseShows c) (ClauseShows (use_package p ∷ c)) (clause-farther (use_package p) c) (away e) l
 
@@ -330,8 +352,10 @@ meaning_sought told answer.Unknown = is_nothing
 meaning_sought told (answer.Found d) = told d
 meaning_sought told answer.Ambiguous = is_several
 
-module _ (told : Denoted → Meaning) (A : Denoted → Type 0) (M : Meaning → Type 0) (to : (d : Denoted) → A d → M (told d)) (from : (m : Meaning) → M m → (d : Denoted) × A d × (told d ≡ m))
-    (alike : (d e : Denoted) → A d → A e → told d ≡ told e → same_denoted d e ≡ true) (agree : (d e : Denoted) → same_denoted d e ≡ true → told d ≡ told e) where
+module _ (told : Denoted → Meaning) (A : Denoted → Type 0) (M : Meaning → Type 0) (to : (d : Denoted) → A d → M (told d))
+    (from : (m : Meaning) → M m → (d : Denoted) × A d × (told d ≡ m))
+    (alike : (d e : Denoted) → A d → A e → told d ≡ told e → same_denoted d e ≡ true)
+    (agree : (d e : Denoted) → same_denoted d e ≡ true → told d ≡ told e) where
   pub told-one : (s : Sought) (ms : List Meaning) → Tells s A → Lists ms M → meaning_sought told s ≡ one_of ms
   told-one answer.Unknown [] t l = refl
   told-one answer.Unknown (m ∷ []) t l = let f = from m l.0 in absurd (t f.0 f.1)

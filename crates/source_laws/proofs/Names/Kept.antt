@@ -51,11 +51,16 @@ pub together-itself : (last : ℕ) (c before : Before) → Stands c before → T
 together-itself last c before s = record { stands = s; table = refl; position = refl }
 
 -- each position up to the next occurrence is in the region of one before it, if that is
-pub all-together : (last : ℕ) (o : Occurrence) (x before : Before) → Together last x (o ∷ before) before → (c : Before) → Stands c (o ∷ before) → (d : Before) × Together last d c before
-all-together last o x before t c (inl e) = (x, record { stands = t.stands; table = ap (here_at last) e ∙ t.table; position = ap region_of_position e ∙ t.position })
+pub all-together : (last : ℕ) (o : Occurrence) (x before : Before) → Together last x (o ∷ before) before → (c : Before) → Stands c (o ∷ before)
+    → (d : Before) × Together last d c before
+all-together last o x before t c (inl e) = (
+  x,
+  record { stands = t.stands; table = ap (here_at last) e ∙ t.table; position = ap region_of_position e ∙ t.position },
+)
 all-together last o x before t c (inr s) = (c, together-itself last c before s)
 
-pub regions-stay : (last : ℕ) (o : Occurrence) (x before : Before) → RegionsKept last before → Together last x (o ∷ before) before → next_region last before ≤ next_region last (o ∷ before) → RegionsOpen last (o ∷ before)
+pub regions-stay : (last : ℕ) (o : Occurrence) (x before : Before) → RegionsKept last before → Together last x (o ∷ before) before
+    → next_region last before ≤ next_region last (o ∷ before) → RegionsOpen last (o ∷ before)
     → RegionsKept last (o ∷ before)
 regions-stay last o x before k t next opened = record {
   opened = opened;
@@ -77,7 +82,8 @@ pub record BeginsAnew (last : ℕ) (o : Occurrence) (before : Before) : Type 0 w
   pub position : region_of_position (o ∷ before) ≡ suc (length before)
   pub next : next_region last (o ∷ before) ≡ suc (next_region last before)
 
-pub regions-anew : (last : ℕ) (o : Occurrence) (before : Before) → RegionsKept last before → BeginsAnew last o before → RegionsOpen last (o ∷ before) → RegionsKept last (o ∷ before)
+pub regions-anew : (last : ℕ) (o : Occurrence) (before : Before) → RegionsKept last before → BeginsAnew last o before → RegionsOpen last (o ∷ before)
+    → RegionsKept last (o ∷ before)
 regions-anew last o before k new opened = record { opened = opened; below = below; same = same; alike = alike }
   where
     table : here_at last (o ∷ before) ≡ next_region last before
@@ -99,7 +105,8 @@ regions-anew last o before k new opened = record { opened = opened; below = belo
 
     farther : (c d : Before) → c ≡ o ∷ before → Stands d before → region_of_position c ≡ region_of_position d → ⊥
     farther c d e s q =
-        let h : region_of_position c ≡ region_of_position (o ∷ before) = ap region_of_position e in let b = position-le d in let l = stands-length d before s in omega arith
+        let h : region_of_position c ≡ region_of_position (o ∷ before) = ap region_of_position e in
+        let b = position-le d in let l = stands-length d before s in omega arith
 
     same : (c d : Before) → Stands c (o ∷ before) → Stands d (o ∷ before) → here_at last c ≡ here_at last d → region_of_position c ≡ region_of_position d
     same c d (inl e) (inl f) q = ap region_of_position (e ∙ sym f)

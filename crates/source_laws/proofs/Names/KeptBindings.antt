@@ -1,5 +1,6 @@
 -- The names that the table binds in a region are those that are declared there by position, or hidden.
-use Rattle.std.proofs.Common.{◌≡◌, inl, inr, ℕ, ◌≤◌, ◌<◌, suc, Bool, true, false, cond, ◌&&◌, List, [], ◌∷◌, length, Option, Some, None, option_map, eqb, bytes_eq, find, refl, sym, ap, ◌∙◌, arith, eqb-true, ne_eqb}
+use Rattle.std.proofs.Common.{◌≡◌, inl, inr, ℕ, ◌≤◌, ◌<◌, suc, Bool, true, false, cond, ◌&&◌, List, [], ◌∷◌, length, Option}
+use Rattle.std.proofs.Common.{Some, None, option_map, eqb, bytes_eq, find, refl, sym, ap, ◌∙◌, arith, eqb-true, ne_eqb}
 use borrow.Author.Tests.{eqb-false}
 use Rattle.world_tables.specs.Tables.{item_at}
 use Rattle.source_laws.proofs.Names.TableLemmas.{item_at-put, item_at-put-other, item_at-with_item, item_at-with_item-other}
@@ -22,7 +23,8 @@ module _ (region : ℕ) (b : Binding) (bindings : Bindings) where
   bound-same : (name : List ℕ) → binding_in (bound_in region b bindings) region name ≡ cond (binds name b) (Some b) (binding_in bindings region name)
   bound-same name = go (item_at region bindings) refl
     where
-      go : (x : Option (List Binding)) → item_at region bindings ≡ x → binding_in (bound_among x region b bindings) region name ≡ cond (binds name b) (Some b) (and_then x (find (binds name)))
+      go : (x : Option (List Binding)) → item_at region bindings ≡ x
+          → binding_in (bound_among x region b bindings) region name ≡ cond (binds name b) (Some b) (and_then x (find (binds name)))
       go None e = ap (λ y. and_then y (find (binds name))) (item_at-put region (b ∷ []) bindings)
       go (Some others) e = ap (λ y. and_then y (find (binds name))) (item_at-with_item region (b ∷ others) others bindings e)
 
@@ -76,8 +78,11 @@ bindings-stay last o x before k t same said-same = record {
 module _ (last : ℕ) (o : Occurrence) (x y before : Before) (b : Binding) (regions : RegionsKept last before) (k : BindingsKept last before)
     (t : Together last x (o ∷ before) before) (stands : Stands y before)
     (bound : (known_at last (o ∷ before)).bindings ≡ bound_in (here_at last y) b (known_at last before).bindings)
-    (more : (region : ℕ) (name : List ℕ) → said last region name (o ∷ before) ≡ cond (bytes_eq b.name name && eqb (region_of_position y) region) (Some b.entity) (said last region name before)) where
-  bound-here : (named : Bool) (name : List ℕ) (found : Option Binding) (known : Option (Option ℕ)) → told_of found ≡ known → told_of (cond named (Some b) found) ≡ cond (named && true) (Some b.entity) known
+    (more : (region : ℕ) (name : List ℕ)
+    → said last region name (o ∷ before)
+    ≡ cond (bytes_eq b.name name && eqb (region_of_position y) region) (Some b.entity) (said last region name before)) where
+  bound-here : (named : Bool) (name : List ℕ) (found : Option Binding) (known : Option (Option ℕ)) → told_of found ≡ known
+      → told_of (cond named (Some b) found) ≡ cond (named && true) (Some b.entity) known
   bound-here true name found known e = refl
   bound-here false name found known e = e
 
@@ -86,19 +91,22 @@ module _ (last : ℕ) (o : Occurrence) (x y before : Before) (b : Binding) (regi
   none-here false known = refl
 
   binds-more : (d : Before) → Stands d before → (name : List ℕ)
-      → told_of (binding_in (bound_in (here_at last y) b (known_at last before).bindings) (here_at last d) name) ≡ said last (region_of_position d) name (o ∷ before)
+      → told_of (binding_in (bound_in (here_at last y) b (known_at last before).bindings) (here_at last d) name)
+      ≡ said last (region_of_position d) name (o ∷ before)
   binds-more d s name = go (eqb (region_of_position y) (region_of_position d)) refl
     where
       old : told_in last before (here_at last d) name ≡ said last (region_of_position d) name before
       old = k.binds d s name
 
       go : (t : Bool) → eqb (region_of_position y) (region_of_position d) ≡ t
-          → told_of (binding_in (bound_in (here_at last y) b (known_at last before).bindings) (here_at last d) name) ≡ said last (region_of_position d) name (o ∷ before)
+          → told_of (binding_in (bound_in (here_at last y) b (known_at last before).bindings) (here_at last d) name)
+          ≡ said last (region_of_position d) name (o ∷ before)
       go true e =
           let home : here_at last d ≡ here_at last y = sym (regions.alike y d stands s (eqb-true _ _ e)) in
           ap (λ r. told_of (binding_in (bound_in (here_at last y) b (known_at last before).bindings) r name)) home
           ∙ (ap told_of (bound-same (here_at last y) b (known_at last before).bindings name)
-          ∙ (bound-here (bytes_eq b.name name) name (binding_in (known_at last before).bindings (here_at last y) name) (said last (region_of_position d) name before) (ap (λ r. told_in last before r name) (sym home) ∙ old)
+          ∙ (bound-here (bytes_eq b.name name) name (binding_in (known_at last before).bindings (here_at last y) name)
+          (said last (region_of_position d) name before) (ap (λ r. told_in last before r name) (sym home) ∙ old)
           ∙ (ap (λ u. cond (bytes_eq b.name name && u) (Some b.entity) (said last (region_of_position d) name before)) (sym e)
           ∙ sym (more (region_of_position d) name))))
       go false e =
@@ -150,7 +158,8 @@ module _ (before : Before) where
   declared-never name (declares i what) b s = never _ (bytes_eq i.text name) (later 0 b (stands-tail (declares i what) b before s))
   declared-never name (declares_unit i what) b s = never _ (bytes_eq i.text name) (ne_eqb 0 no_region (λ e. omega arith))
   declared-never name (completes i s) b t =
-      not_both _ (bytes_eq i.text name) _ (ap (λ bs. eqb (number_of_innermost bs) no_region) (outside-behind b) ∙ later 1 b (stands-tail (completes i s) b before t))
+      not_both _ (bytes_eq i.text name) _
+      (ap (λ bs. eqb (number_of_innermost bs) no_region) (outside-behind b) ∙ later 1 b (stands-tail (completes i s) b before t))
   declared-never name _ b s = refl
 
   hidden-never : (name : List ℕ) (o : Occurrence) (b : Before) → Stands (o ∷ b) before → hides_name number_of_innermost no_region name o b ≡ false
@@ -160,7 +169,8 @@ module _ (before : Before) where
 
   nothing-said : (last : ℕ) (name : List ℕ) → said last no_region name before ≡ None
   nothing-said last name =
-      ap (λ d. said_by last d (nearest (hides_name number_of_innermost no_region name) before)) (nearest-none (declares_name number_of_innermost no_region name) before (declared-never name))
+      ap (λ d. said_by last d (nearest (hides_name number_of_innermost no_region name) before))
+      (nearest-none (declares_name number_of_innermost no_region name) before (declared-never name))
       ∙ ap (λ h. said_by last None h) (nearest-none (hides_name number_of_innermost no_region name) before (hidden-never name))
 
 -- what is bound in other regions stays, and nothing is bound in the new one
@@ -173,7 +183,8 @@ bindings-anew last o before regions k new others none said-same = record {
   binds = binds-anew;
 }
   where
-    binds-anew : (c : Before) → Stands c (o ∷ before) → (name : List ℕ) → told_in last (o ∷ before) (here_at last c) name ≡ said last (region_of_position c) name (o ∷ before)
+    binds-anew : (c : Before) → Stands c (o ∷ before) → (name : List ℕ)
+        → told_in last (o ∷ before) (here_at last c) name ≡ said last (region_of_position c) name (o ∷ before)
     binds-anew c (inl e) name =
         ap (λ r. told_in last (o ∷ before) r name) (ap (here_at last) e ∙ new.table)
         ∙ (ap told_of (none name)
@@ -191,4 +202,5 @@ pub bindings-anew_same : (last : ℕ) (o : Occurrence) (before : Before) → Reg
 bindings-anew_same last o before regions k new same said-same =
     bindings-anew last o before regions k new (λ r other. ap (item_at r) same) (λ name.
     ap (λ bs. binding_in bs (next_region last before) name) same
-    ∙ ap (λ z. and_then z (find (binds name))) (k.unbound (next_region last before) (λ c s e. (let below : here_at last c < next_region last before = regions.below c s in omega arith)))) said-same
+    ∙ ap (λ z. and_then z (find (binds name)))
+    (k.unbound (next_region last before) (λ c s e. (let below : here_at last c < next_region last before = regions.below c s in omega arith)))) said-same

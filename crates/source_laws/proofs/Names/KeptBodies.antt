@@ -33,13 +33,17 @@ bound-joined : (x : Option Binding) → and_then x (λ b. b.entity) ≡ joined (
 bound-joined None = refl
 bound-joined (Some b) = refl
 
-pub bound-said : (last : ℕ) (before c : Before) (name : List ℕ) → Kept last before → Stands c before → entity_bound (table_at last before) (here_at last c) name ≡ joined (said last (region_of_position c) name before)
+pub bound-said : (last : ℕ) (before c : Before) (name : List ℕ) → Kept last before → Stands c before
+    → entity_bound (table_at last before) (here_at last c) name ≡ joined (said last (region_of_position c) name before)
 bound-said last before c name k s = bound-joined (binding_in (known_at last before).bindings (here_at last c) name) ∙ ap joined (k.bindings.binds c s name)
 
-pub bound-here : (last : ℕ) (before : Before) (name : List ℕ) → Kept last before → entity_bound (table_at last before) (region_here (table_at last before)) name ≡ joined (said last (region_of_position before) name before)
-bound-here last before name k = ap (λ r. entity_bound (table_at last before) r name) (region-here last before) ∙ bound-said last before before name k (stands-here before)
+pub bound-here : (last : ℕ) (before : Before) (name : List ℕ) → Kept last before
+    → entity_bound (table_at last before) (region_here (table_at last before)) name ≡ joined (said last (region_of_position before) name before)
+bound-here last before name k =
+    ap (λ r. entity_bound (table_at last before) r name) (region-here last before) ∙ bound-said last before before name k (stands-here before)
 
-pub bound-standard : (last : ℕ) (before : Before) (name : List ℕ) → Kept last before → entity_bound (table_at last before) 0 name ≡ joined (said last 0 name before)
+pub bound-standard : (last : ℕ) (before : Before) (name : List ℕ) → Kept last before
+    → entity_bound (table_at last before) 0 name ≡ joined (said last 0 name before)
 bound-standard last before name k = bound-said last before [] name k (stands-start before) ∙ ap (λ r. joined (said last r name before)) number-start
 
 -- ---- the nearest declaration
@@ -49,7 +53,8 @@ pub record Found (last : ℕ) (region : ℕ) (name : List ℕ) (before : Before)
   pub bound : joined (said last region name before) ≡ Some (length (known_at last b).entities)
   pub there : EntityThere last o b (known_at last before).entities
 
-pub found-nearest : (last region : ℕ) (name : List ℕ) (before : Before) (o : Occurrence) (b : Before) → Kept last before → declaration number_of_innermost region name before ≡ Some (o ∷ b) → Found last region name before o b
+pub found-nearest : (last region : ℕ) (name : List ℕ) (before : Before) (o : Occurrence) (b : Before) → Kept last before
+    → declaration number_of_innermost region name before ≡ Some (o ∷ b) → Found last region name before o b
 found-nearest last region name before o b k e =
     let stands = nearest-stands (declares_name number_of_innermost region name) before (o ∷ b) e in
     record {
@@ -72,7 +77,8 @@ pub record PackageFound (last : ℕ) (name : List ℕ) (before : Before) (i : Id
 if_package : (e : ℕ) (n : Names) (x : Entity) (t : Bool) → entity_at n e ≡ Some x → is_package_kind x.kind ≡ t → package_if n e ≡ cond t (Some e) None
 if_package e n x t there is = ap (λ y. cond (holds_of is_package_kind (option_map (λ z. z.kind) y)) (Some e) None) there ∙ ap (λ u. cond u (Some e) None) is
 
-found-package : (last : ℕ) (name : List ℕ) (before : Before) (o : Occurrence) (b : Before) (t : Bool) → Kept last before → declaration number_of_innermost 0 name before ≡ Some (o ∷ b) → is_package o ≡ t
+found-package : (last : ℕ) (name : List ℕ) (before : Before) (o : Occurrence) (b : Before) (t : Bool) → Kept last before
+    → declaration number_of_innermost 0 name before ≡ Some (o ∷ b) → is_package o ≡ t
     → package_named (table_at last before) name ≡ cond t (Some (length (known_at last b).entities)) None
 unfolding package_named
 found-package last name before o b t k e is =
@@ -81,7 +87,8 @@ found-package last name before o b t k e is =
     ap (λ y. and_then y (package_if (table_at last before))) (bound-standard last before name k ∙ f.bound)
     ∙ if_package (length (known_at last b).entities) (table_at last before) x.0 t x.1 (x.2.packaged ∙ is)
 
-none-package : (last : ℕ) (name : List ℕ) (before : Before) → Kept last before → declaration number_of_innermost 0 name before ≡ None → package_named (table_at last before) name ≡ None
+none-package : (last : ℕ) (name : List ℕ) (before : Before) → Kept last before → declaration number_of_innermost 0 name before ≡ None
+    → package_named (table_at last before) name ≡ None
 unfolding package_named
 none-package last name before k e =
     ap (λ y. and_then y (package_if (table_at last before))) (bound-standard last before name k ∙ go (nearest (hides_name number_of_innermost 0 name) before))
@@ -91,7 +98,9 @@ none-package last name before k e =
     hidden-none (Some h) = refl
 
     go : (h : Option Before) → joined (said last 0 name before) ≡ None
-    go h = ap (λ d. joined (said_by last d (nearest (hides_name number_of_innermost 0 name) before))) e ∙ hidden-none (nearest (hides_name number_of_innermost 0 name) before)
+    go h =
+        ap (λ d. joined (said_by last d (nearest (hides_name number_of_innermost 0 name) before))) e
+        ∙ hidden-none (nearest (hides_name number_of_innermost 0 name) before)
 
 -- an occurrence that declares a package, and the region that it gives
 pub package-shape : (P : Occurrence → Type 0) → ((i : Identifier) → P (declares_unit i the_package)) → (o : Occurrence) → is_package o ≡ true → P o
@@ -100,22 +109,33 @@ package-shape P p _ e = cc
 
 -- either a package is found by the table and by position, or by neither
 pub data PackageSought (last : ℕ) (name : List ℕ) (before : Before) : Type 0 where
-  package_there : (i : Identifier) (b : Before) → PackageFound last name before i b → package_declared number_of_innermost name before ≡ Some (declares_unit i the_package ∷ b) → PackageSought last name before
+  package_there : (i : Identifier) (b : Before) → PackageFound last name before i b
+      → package_declared number_of_innermost name before ≡ Some (declares_unit i the_package ∷ b) → PackageSought last name before
   no_package : package_named (table_at last before) name ≡ None → package_declared number_of_innermost name before ≡ None → PackageSought last name before
 
 pub package-sought : (last : ℕ) (name : List ℕ) (before : Before) → Kept last before → PackageSought last name before
 package-sought last name before k = go (declaration number_of_innermost 0 name before) refl
   where
-    region-there : (i : Identifier) (b : Before) → EntityThere last (declares_unit i the_package) b (known_at last before).entities → region_of_entity (table_at last before) (length (known_at last b).entities) ≡ Some (known_at last b).regions
+    region-there : (i : Identifier) (b : Before) → EntityThere last (declares_unit i the_package) b (known_at last before).entities
+        → region_of_entity (table_at last before) (length (known_at last b).entities) ≡ Some (known_at last b).regions
     region-there i b x = ap (λ y. and_then y (λ (z : Entity). z.region)) x.1 ∙ x.2.region
 
-    found : (i : Identifier) (b : Before) → declaration number_of_innermost 0 name before ≡ Some (declares_unit i the_package ∷ b) → PackageSought last name before
+    found : (i : Identifier) (b : Before) → declaration number_of_innermost 0 name before ≡ Some (declares_unit i the_package ∷ b)
+        → PackageSought last name before
     found i b e =
         let f = found-nearest last 0 name before (declares_unit i the_package) b k e in
-        package_there i b (record { stands = f.stands; named = found-package last name before (declares_unit i the_package) b true k e refl; region = region-there i b f.there }) (ap (if_so is_package) e)
+        package_there i b
+        (record {
+          stands = f.stands;
+          named = found-package last name before (declares_unit i the_package) b true k e refl;
+          region = region-there i b f.there;
+        })
+        (ap (if_so is_package) e)
 
-    other : (o : Occurrence) (b : Before) (t : Bool) → is_package o ≡ t → declaration number_of_innermost 0 name before ≡ Some (o ∷ b) → PackageSought last name before
-    other o b true is e = package-shape (λ p. declaration number_of_innermost 0 name before ≡ Some (p ∷ b) → PackageSought last name before) (λ i. found i b) o is e
+    other : (o : Occurrence) (b : Before) (t : Bool) → is_package o ≡ t → declaration number_of_innermost 0 name before ≡ Some (o ∷ b)
+        → PackageSought last name before
+    other o b true is e =
+        package-shape (λ p. declaration number_of_innermost 0 name before ≡ Some (p ∷ b) → PackageSought last name before) (λ i. found i b) o is e
     other o b false is e = no_package (found-package last name before o b false k e is) (ap (if_so is_package) e ∙ ap (λ u. cond u (Some (o ∷ b)) None) is)
 
     go : (d : Option Before) → declaration number_of_innermost 0 name before ≡ d → PackageSought last name before
@@ -125,7 +145,8 @@ package-sought last name before k = go (declaration number_of_innermost 0 name b
 
 -- ---- where a declaration stands, the beginning of its region does, unless it is about to
 
-pub next-stands : (before : Before) (d : Occurrence) (b : Before) (r : Region) → IsText before → Stands (d ∷ b) before → region_behind_it d ≡ Some r → (d ∷ b ≡ before) ⊎ Stands (begins r ∷ d ∷ b) before
+pub next-stands : (before : Before) (d : Occurrence) (b : Before) (r : Region) → IsText before → Stands (d ∷ b) before → region_behind_it d ≡ Some r
+    → (d ∷ b ≡ before) ⊎ Stands (begins r ∷ d ∷ b) before
 next-stands [] d b r t s e = cc
 next-stands (o ∷ before) d b r t (inl q) e = inl q
 next-stands (o ∷ before) d b r t (inr s) e = go (next-stands before d b r t.2 s e)
@@ -139,7 +160,8 @@ next-stands (o ∷ before) d b r t (inr s) e = go (next-stands before d b r t.2 
     go (inl q) = inr (inl (let h = first-begins q in (ap (λ z. z ∷ d ∷ b) (sym h) ∙ ap (λ z. o ∷ z) q)))
     go (inr u) = inr (inr u)
 
-pub begun-stands : (before : Before) (d : Occurrence) (b : Before) (r : Region) → IsText before → begins_next before ≡ None → Stands (d ∷ b) before → region_behind_it d ≡ Some r → Stands (begins r ∷ d ∷ b) before
+pub begun-stands : (before : Before) (d : Occurrence) (b : Before) (r : Region) → IsText before → begins_next before ≡ None → Stands (d ∷ b) before
+    → region_behind_it d ≡ Some r → Stands (begins r ∷ d ∷ b) before
 begun-stands before d b r t settled s e = go (next-stands before d b r t s e)
   where
     go : (d ∷ b ≡ before) ⊎ Stands (begins r ∷ d ∷ b) before → Stands (begins r ∷ d ∷ b) before

@@ -1,5 +1,6 @@
 -- Names that are hidden and declared, and bodies that complete: what the table then binds is what positions say.
-use Rattle.std.proofs.Common.{◌≡◌, ℕ, Bool, true, false, cond, ◌&&◌, List, [], ◌∷◌, ◌++◌, length, Option, Some, None, eqb, bytes_eq, append-nil, refl, sym, ap, subst, ◌∙◌, eqb-true}
+use Rattle.std.proofs.Common.{◌≡◌, ℕ, Bool, true, false, cond, ◌&&◌, List, [], ◌∷◌, ◌++◌, length, Option}
+use Rattle.std.proofs.Common.{Some, None, eqb, bytes_eq, append-nil, refl, sym, ap, subst, ◌∙◌, eqb-true}
 use Rattle.std.proofs.lemmas.Slice.Eq.{bytes_eq-Decides}
 use Rattle.ada_tree.specs.declared.names.Identifier.{Identifier}
 use Rattle.ada_regions.specs.declared.entities.Entity.{Entity}
@@ -18,7 +19,8 @@ use Rattle.source_laws.proofs.Names.KeptSteps.{Kept, StaysHere, here-together, h
 
 -- ---- a name is hidden
 
-said-again : (last : ℕ) (declared hidden : Option Before) (h : Before) → (said_by last declared hidden ≡ None → ⊥) → said_by last declared (Some h) ≡ said_by last declared hidden
+said-again : (last : ℕ) (declared hidden : Option Before) (h : Before) → (said_by last declared hidden ≡ None → ⊥)
+    → said_by last declared (Some h) ≡ said_by last declared hidden
 said-again last (Some d) hidden h some = refl
 said-again last None (Some g) h some = refl
 said-again last None None h some = absurd (some refl)
@@ -34,10 +36,12 @@ pub record HidesHere (last : ℕ) (i : Identifier) (o : Occurrence) (before : Be
   pub contexts : (known_at last (o ∷ before)).contexts ≡ (known_at last before).contexts
   pub priority : (known_at last (o ∷ before)).priority ≡ (known_at last before).priority
   pub declares : (region : ℕ) (name : List ℕ) → declares_name number_of_innermost region name o before ≡ false
-  pub hides : (region : ℕ) (name : List ℕ) → hides_name number_of_innermost region name o before ≡ (bytes_eq i.text name && eqb (region_of_position before) region)
+  pub hides : (region : ℕ) (name : List ℕ)
+      → hides_name number_of_innermost region name o before ≡ (bytes_eq i.text name && eqb (region_of_position before) region)
   pub no_package : (j : Identifier) → begins (package_region j) ≡ o → ⊥
 
-module _ (last : ℕ) (i : Identifier) (o : Occurrence) (before : Before) (settled : begins_next before ≡ None) (stays : StaysHere last o before) (k : Kept last before) (h : HidesHere last i o before) where
+module _ (last : ℕ) (i : Identifier) (o : Occurrence) (before : Before) (settled : begins_next before ≡ None) (stays : StaysHere last o before)
+    (k : Kept last before) (h : HidesHere last i o before) where
   abbrev declared_there : ℕ → List ℕ → Option Before
   declared_there region name = declaration number_of_innermost region name before
 
@@ -45,20 +49,27 @@ module _ (last : ℕ) (i : Identifier) (o : Occurrence) (before : Before) (settl
   hidden_there region name = nearest (hides_name number_of_innermost region name) before
 
   said-hidden : (region : ℕ) (name : List ℕ)
-      → said last region name (o ∷ before) ≡ said_by last (declared_there region name) (cond (bytes_eq i.text name && eqb (region_of_position before) region) (Some (o ∷ before)) (hidden_there region name))
+      → said last region name (o ∷ before)
+      ≡ said_by last (declared_there region name)
+      (cond (bytes_eq i.text name && eqb (region_of_position before) region) (Some (o ∷ before)) (hidden_there region name))
   said-hidden region name =
-      ap (λ t. said_by last (cond t (Some (o ∷ before)) (declared_there region name)) (nearest (hides_name number_of_innermost region name) (o ∷ before))) (h.declares region name)
+      ap (λ t. said_by last (cond t (Some (o ∷ before)) (declared_there region name)) (nearest (hides_name number_of_innermost region name) (o ∷ before)))
+      (h.declares region name)
       ∙ ap (λ t. said_by last (declared_there region name) (cond t (Some (o ∷ before)) (hidden_there region name))) (h.hides region name)
 
   -- a fact of the name in this region, for each name and region that are these
-  there : (P : ℕ → List ℕ → Type 0) → P (region_of_position before) i.text → (region : ℕ) (name : List ℕ) → bytes_eq i.text name ≡ true → eqb (region_of_position before) region ≡ true → P region name
+  there : (P : ℕ → List ℕ → Type 0) → P (region_of_position before) i.text → (region : ℕ) (name : List ℕ) → bytes_eq i.text name ≡ true
+      → eqb (region_of_position before) region ≡ true → P region name
   there P p region name named home = subst (λ n. P region n) ((bytes_eq-Decides i.text name).0 named) (subst (λ r. P r i.text) (eqb-true _ _ home) p)
 
   -- the region had it already
-  pub hidden-again : (known_at last (o ∷ before)).bindings ≡ (known_at last before).bindings → (told_in last before (here_at last before) i.text ≡ None → ⊥) → Kept last (o ∷ before)
+  pub hidden-again : (known_at last (o ∷ before)).bindings ≡ (known_at last before).bindings → (told_in last before (here_at last before) i.text ≡ None → ⊥)
+      → Kept last (o ∷ before)
   hidden-again same bound = record {
     regions = here-regions last o before settled stays k.regions;
-    bindings = bindings-stay last o before before k.bindings (here-together last o before settled stays) same (λ region name. said-hidden region name ∙ go region name (bytes_eq i.text name) (eqb (region_of_position before) region) refl refl);
+    bindings =
+        bindings-stay last o before before k.bindings (here-together last o before settled stays) same
+        (λ region name. said-hidden region name ∙ go region name (bytes_eq i.text name) (eqb (region_of_position before) region) refl refl);
     entities = entities-stay last o before k.entities h.entities h.declares;
     bodies = bodies-stay last o before [] k.bodies h.bodies (h.entities ∙ sym (append-nil (known_at last before).entities));
     contexts = contexts-stay last o before k.contexts h.contexts h.no_package;
@@ -71,16 +82,21 @@ module _ (last : ℕ) (i : Identifier) (o : Occurrence) (before : Before) (settl
       go : (region : ℕ) (name : List ℕ) (named home : Bool) → bytes_eq i.text name ≡ named → eqb (region_of_position before) region ≡ home
           → said_by last (declared_there region name) (cond (named && home) (Some (o ∷ before)) (hidden_there region name)) ≡ said last region name before
       go region name true true e f =
-          said-again last (declared_there region name) (hidden_there region name) (o ∷ before) (there (λ r n. said last r n before ≡ None → ⊥) some-there region name e f)
+          said-again last (declared_there region name) (hidden_there region name) (o ∷ before)
+          (there (λ r n. said last r n before ≡ None → ⊥) some-there region name e f)
       go region name true false e f = refl
       go region name false home e f = refl
 
   -- the region did not have it
-  pub hidden-first : (exports : Bool) → (known_at last (o ∷ before)).bindings ≡ bound_in (here_at last before) (record { name = i.text; entity = None; exported = exports }) (known_at last before).bindings
+  pub hidden-first : (exports : Bool)
+      → (known_at last (o ∷ before)).bindings
+      ≡ bound_in (here_at last before) (record { name = i.text; entity = None; exported = exports }) (known_at last before).bindings
       → told_in last before (here_at last before) i.text ≡ None → Kept last (o ∷ before)
   hidden-first exports more unbound = record {
     regions = here-regions last o before settled stays k.regions;
-    bindings = bindings-more last o before before before (record { name = i.text; entity = None; exported = exports }) k.regions k.bindings (here-together last o before settled stays) (stands-here before) more (λ region name.
+    bindings =
+        bindings-more last o before before before (record { name = i.text; entity = None; exported = exports }) k.regions k.bindings
+        (here-together last o before settled stays) (stands-here before) more (λ region name.
         said-hidden region name ∙ go region name (bytes_eq i.text name) (eqb (region_of_position before) region) refl refl);
     entities = entities-stay last o before k.entities h.entities h.declares;
     bodies = bodies-stay last o before [] k.bodies h.bodies (h.entities ∙ sym (append-nil (known_at last before).entities));
@@ -92,8 +108,11 @@ module _ (last : ℕ) (i : Identifier) (o : Occurrence) (before : Before) (settl
       none-there = sym (k.bindings.binds before (stands-here before) i.text) ∙ unbound
 
       go : (region : ℕ) (name : List ℕ) (named home : Bool) → bytes_eq i.text name ≡ named → eqb (region_of_position before) region ≡ home
-          → said_by last (declared_there region name) (cond (named && home) (Some (o ∷ before)) (hidden_there region name)) ≡ cond (named && home) (Some None) (said last region name before)
-      go region name true true e f = said-first last (declared_there region name) (hidden_there region name) (o ∷ before) (there (λ r n. said last r n before ≡ None) none-there region name e f)
+          → said_by last (declared_there region name) (cond (named && home) (Some (o ∷ before)) (hidden_there region name))
+          ≡ cond (named && home) (Some None) (said last region name before)
+      go region name true true e f =
+          said-first last (declared_there region name) (hidden_there region name) (o ∷ before)
+          (there (λ r n. said last r n before ≡ None) none-there region name e f)
       go region name true false e f = refl
       go region name false home e f = refl
 
@@ -106,28 +125,46 @@ pub record DeclaresAt (last : ℕ) (i : Identifier) (o : Occurrence) (y before :
   pub bodies : (known_at last (o ∷ before)).bodies ≡ (known_at last before).bodies
   pub contexts : (known_at last (o ∷ before)).contexts ≡ (known_at last before).contexts
   pub priority : (known_at last (o ∷ before)).priority ≡ (known_at last before).priority
-  pub declares : (region : ℕ) (name : List ℕ) → declares_name number_of_innermost region name o before ≡ (bytes_eq i.text name && eqb (region_of_position y) region)
+  pub declares : (region : ℕ) (name : List ℕ)
+      → declares_name number_of_innermost region name o before ≡ (bytes_eq i.text name && eqb (region_of_position y) region)
   pub hides : (region : ℕ) (name : List ℕ) → hides_name number_of_innermost region name o before ≡ false
   pub no_package : (j : Identifier) → begins (package_region j) ≡ o → ⊥
 
-pub declared-more : (last : ℕ) (i : Identifier) (o : Occurrence) (y before : Before) (x : Entity) (exports : Bool) → begins_next before ≡ None → StaysHere last o before → Kept last before → DeclaresAt last i o y before x
-    → (known_at last (o ∷ before)).bindings ≡ bound_in (here_at last y) (record { name = i.text; entity = Some (length (known_at last before).entities); exported = exports }) (known_at last before).bindings → Kept last (o ∷ before)
+pub declared-more : (last : ℕ) (i : Identifier) (o : Occurrence) (y before : Before) (x : Entity) (exports : Bool) → begins_next before ≡ None
+    → StaysHere last o before → Kept last before → DeclaresAt last i o y before x
+    → (known_at last (o ∷ before)).bindings
+    ≡ bound_in (here_at last y) (record { name = i.text; entity = Some (length (known_at last before).entities); exported = exports })
+    (known_at last before).bindings
+    → Kept last (o ∷ before)
 declared-more last i o y before x exports settled stays k d more = record {
   regions = here-regions last o before settled stays k.regions;
-  bindings = bindings-more last o before y before (record { name = i.text; entity = Some (length (known_at last before).entities); exported = exports }) k.regions k.bindings (here-together last o before settled stays) d.stands more said-declared;
+  bindings =
+      bindings-more last o before y before
+      (record { name = i.text; entity = Some (length (known_at last before).entities); exported = exports }) k.regions k.bindings
+      (here-together last o before settled stays) d.stands more said-declared;
   entities = entities-more last o before x k.entities d.entities d.declared;
   bodies = bodies-stay last o before (x ∷ []) k.bodies d.bodies d.entities;
   contexts = contexts-stay last o before k.contexts d.contexts d.no_package;
   priority = d.priority ∙ k.priority;
 }
   where
-    first-said : (t : Bool) (declared hidden : Option Before) → said_by last (cond t (Some (o ∷ before)) declared) hidden ≡ cond t (Some (Some (length (known_at last before).entities))) (said_by last declared hidden)
+    first-said : (t : Bool) (declared hidden : Option Before)
+        → said_by last (cond t (Some (o ∷ before)) declared) hidden
+        ≡ cond t (Some (Some (length (known_at last before).entities))) (said_by last declared hidden)
     first-said true declared hidden = refl
     first-said false declared hidden = refl
 
     said-declared : (region : ℕ) (name : List ℕ)
-        → said last region name (o ∷ before) ≡ cond (bytes_eq i.text name && eqb (region_of_position y) region) (Some (Some (length (known_at last before).entities))) (said last region name before)
+        → said last region name (o ∷ before)
+        ≡ cond (bytes_eq i.text name && eqb (region_of_position y) region) (Some (Some (length (known_at last before).entities)))
+        (said last region name before)
     said-declared region name =
-        ap (λ t. said_by last (cond t (Some (o ∷ before)) (declaration number_of_innermost region name before)) (nearest (hides_name number_of_innermost region name) (o ∷ before))) (d.declares region name)
-        ∙ (ap (λ t. said_by last (cond (bytes_eq i.text name && eqb (region_of_position y) region) (Some (o ∷ before)) (declaration number_of_innermost region name before)) (cond t (Some (o ∷ before)) (nearest (hides_name number_of_innermost region name) before))) (d.hides region name)
-        ∙ first-said (bytes_eq i.text name && eqb (region_of_position y) region) (declaration number_of_innermost region name before) (nearest (hides_name number_of_innermost region name) before))
+        ap (λ t. said_by last (cond t (Some (o ∷ before)) (declaration number_of_innermost region name before))
+        (nearest (hides_name number_of_innermost region name) (o ∷ before)))
+        (d.declares region name)
+        ∙ (ap (λ t. said_by last
+        (cond (bytes_eq i.text name && eqb (region_of_position y) region) (Some (o ∷ before)) (declaration number_of_innermost region name before))
+        (cond t (Some (o ∷ before)) (nearest (hides_name number_of_innermost region name) before)))
+        (d.hides region name)
+        ∙ first-said (bytes_eq i.text name && eqb (region_of_position y) region) (declaration number_of_innermost region name before)
+        (nearest (hides_name number_of_innermost region name) before))

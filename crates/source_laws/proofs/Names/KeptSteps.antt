@@ -9,7 +9,8 @@ use Rattle.source_laws.proofs.Names.PositionLemmas.{stands-here}
 use Rattle.source_laws.proofs.Names.Known.{Open, innermost, outside, first_again, exports_no_more}
 use Rattle.source_laws.proofs.Names.KnownDeclared.{region_behind_it, more_regions}
 use Rattle.source_laws.proofs.Names.Texts.{begins_next, IsAround}
-use Rattle.source_laws.proofs.Names.Kept.{known_at, here_at, numbers_of, next_by, next_region, RegionsOpen, RegionsKept, Together, regions-stay, Outside, outside-of}
+use Rattle.source_laws.proofs.Names.Kept.{known_at, here_at, numbers_of, next_by, next_region, RegionsOpen}
+use Rattle.source_laws.proofs.Names.Kept.{RegionsKept, Together, regions-stay, Outside, outside-of}
 use Rattle.source_laws.proofs.Names.KeptBindings.{said_by, said, BindingsKept, bindings-stay}
 use Rattle.source_laws.proofs.Names.KeptEntities.{EntitiesKept, entities-stay, BodiesKept, bodies-stay, ContextsKept, contexts-stay}
 
@@ -74,13 +75,15 @@ module _ (last : ℕ) (o : Occurrence) (before : Before) (settled : begins_next 
   next-le : next_region last before ≤ next_region last (o ∷ before)
   next-le = go (region_behind_it o) h.regions (next-settled last before settled)
     where
-      go : (r : Option Region) → (known_at last (o ∷ before)).regions ≡ more_regions r (known_at last before).regions → next_region last before ≡ (known_at last before).regions
+      go : (r : Option Region) → (known_at last (o ∷ before)).regions ≡ more_regions r (known_at last before).regions
+          → next_region last before ≡ (known_at last before).regions
           → next_region last before ≤ next_by r (known_at last before).regions (known_at last (o ∷ before)).regions
       go None e q = omega arith
       go (Some r) e q = omega arith
 
   pub here-regions : RegionsKept last before → RegionsKept last (o ∷ before)
-  here-regions k = regions-stay last o before before k here-together next-le (h.numbers ∙ (k.opened ∙ ap (λ bs. map (here_at last) bs ++ 0 ∷ []) (sym h.around)))
+  here-regions k =
+      regions-stay last o before before k here-together next-le (h.numbers ∙ (k.opened ∙ ap (λ bs. map (here_at last) bs ++ 0 ∷ []) (sym h.around)))
 
 -- it says nothing of names
 pub record SaysNothing (last : ℕ) (o : Occurrence) (before : Before) : Type 0 where
@@ -94,17 +97,23 @@ pub record SaysNothing (last : ℕ) (o : Occurrence) (before : Before) : Type 0 
   pub no_package : (i : Identifier) → begins (package_region i) ≡ o → ⊥
 
 module _ (last : ℕ) (o : Occurrence) (before : Before) where
-  pub said-same : ((region : ℕ) (name : List ℕ) → declares_name number_of_innermost region name o before ≡ false) → ((region : ℕ) (name : List ℕ) → hides_name number_of_innermost region name o before ≡ false)
+  pub said-same : ((region : ℕ) (name : List ℕ) → declares_name number_of_innermost region name o before ≡ false)
+      → ((region : ℕ) (name : List ℕ) → hides_name number_of_innermost region name o before ≡ false)
       → (region : ℕ) (name : List ℕ) → said last region name (o ∷ before) ≡ said last region name before
   said-same declares hides region name =
-      ap (λ t. said_by last (cond t (Some (o ∷ before)) (declaration number_of_innermost region name before)) (nearest (hides_name number_of_innermost region name) (o ∷ before))) (declares region name)
-      ∙ ap (λ t. said_by last (declaration number_of_innermost region name before) (cond t (Some (o ∷ before)) (nearest (hides_name number_of_innermost region name) before))) (hides region name)
+      ap (λ t. said_by last (cond t (Some (o ∷ before)) (declaration number_of_innermost region name before))
+      (nearest (hides_name number_of_innermost region name) (o ∷ before)))
+      (declares region name)
+      ∙ ap (λ t. said_by last (declaration number_of_innermost region name before)
+      (cond t (Some (o ∷ before)) (nearest (hides_name number_of_innermost region name) before)))
+      (hides region name)
 
   bodies-same : (k : BodiesKept last before) (s : SaysNothing last o before) → BodiesKept last (o ∷ before)
   bodies-same k s = bodies-stay last o before [] k s.bodies (s.entities ∙ sym (append-nil (known_at last before).entities))
 
   -- with a position whose region this is
-  pub nothing-together : (x : Before) → Together last x (o ∷ before) before → RegionsKept last (o ∷ before) → Kept last before → SaysNothing last o before → Kept last (o ∷ before)
+  pub nothing-together : (x : Before) → Together last x (o ∷ before) before → RegionsKept last (o ∷ before) → Kept last before → SaysNothing last o before
+      → Kept last (o ∷ before)
   nothing-together x t regions k s = record {
     regions = regions;
     bindings = bindings-stay last o x before k.bindings t s.bindings (said-same s.declares s.hides);
@@ -120,7 +129,8 @@ module _ (last : ℕ) (o : Occurrence) (before : Before) where
   -- ---- a region ends
 
   pub nothing-ended : begins_next before ≡ None → IsAround (around before) → around (o ∷ before) ≡ around_outside before → region_behind_it o ≡ None
-      → (known_at last (o ∷ before)).opened ≡ outside (known_at last before).opened → (known_at last (o ∷ before)).regions ≡ (known_at last before).regions → Kept last before → SaysNothing last o before → Kept last (o ∷ before)
+      → (known_at last (o ∷ before)).opened ≡ outside (known_at last before).opened → (known_at last (o ∷ before)).regions ≡ (known_at last before).regions
+      → Kept last before → SaysNothing last o before → Kept last (o ∷ before)
   nothing-ended settled is_around ended none opened regions k s = nothing-together x.0 together kept-regions k s
     where
       x : (y : Before) × Outside last y before
@@ -133,7 +143,8 @@ module _ (last : ℕ) (o : Occurrence) (before : Before) where
         position = ap number_of_innermost ended ∙ sym x.1.position;
       }
 
-      still-open : (bs : List Before) → around before ≡ bs → IsAround bs → rest (map (here_at last) bs ++ 0 ∷ []) ≡ map (here_at last) (all_but_innermost bs) ++ 0 ∷ []
+      still-open : (bs : List Before) → around before ≡ bs → IsAround bs
+          → rest (map (here_at last) bs ++ 0 ∷ []) ≡ map (here_at last) (all_but_innermost bs) ++ 0 ∷ []
       still-open [] e a = absurd a
       still-open (b ∷ bs) e a = refl
 

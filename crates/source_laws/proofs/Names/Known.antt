@@ -37,7 +37,15 @@ abbrev pub opened_as : Frame → Open
 opened_as f = record { region = f.region; exports = f.exports }
 
 abbrev pub known : Names → Known
-known n = record { regions = n.regions; opened = map opened_as n.frames; bindings = n.bindings; entities = n.entities; bodies = n.bodies; contexts = n.contexts; priority = n.last_priority }
+known n = record {
+  regions = n.regions;
+  opened = map opened_as n.frames;
+  bindings = n.bindings;
+  entities = n.entities;
+  bodies = n.bodies;
+  contexts = n.contexts;
+  priority = n.last_priority;
+}
 
 abbrev pub nowhere : Open
 nowhere = record { region = 0; exports = false }
@@ -155,7 +163,9 @@ pub known-hidden : (i : Identifier) (n : Names) → known (hidden i n) ≡ hidde
 unfolding hidden
 known-hidden i n = go (is_some (binding_in n.bindings (region_here n) i.text)) ∙ ap (λ o. hidden_in o i (known n)) (sym (innermost-opened n.frames))
   where
-    go : (b : Bool) → known (cond b n (with_binding (enclosure_here n) i.text None n)) ≡ cond b (known n) (with_bound (opened_as (innermost_frame n.frames)) i.text None (known n))
+    go : (b : Bool)
+        → known (cond b n (with_binding (enclosure_here n) i.text None n))
+        ≡ cond b (known n) (with_bound (opened_as (innermost_frame n.frames)) i.text None (known n))
     go true = refl
     go false = refl
 

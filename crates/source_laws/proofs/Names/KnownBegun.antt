@@ -18,11 +18,16 @@ use Rattle.ada_regions.specs.declared.table.Enclosure.{Enclosure}
 use Rattle.ada_regions.specs.declared.table.PackageContext.{PackageContext}
 use Rattle.ada_regions.specs.declared.table.Names.{Names}
 use Rattle.ada_regions.specs.Words.{and_then}
-use Rattle.ada_regions.specs.Names.{Denotations, noted_among, noted_in, denoted_in, entity_at, entity_denoted, entity_of, region_of_entity, kind_at, region_here, noted}
-use Rattle.ada_regions.specs.Occurrences.{Region, the_context, the_context_of, further_context, package_region, package_body, main_body, a_profile, subprogram_body, a_unit, task_body, protected_body, entry_body, an_accept, a_block, a_loop, a_record}
+use Rattle.ada_regions.specs.Names.{Denotations, noted_among, noted_in, denoted_in, entity_at}
+use Rattle.ada_regions.specs.Names.{entity_denoted, entity_of, region_of_entity, kind_at, region_here, noted}
+use Rattle.ada_regions.specs.Occurrences.{Region, the_context, the_context_of, further_context, package_region, package_body, main_body, a_profile}
+use Rattle.ada_regions.specs.Occurrences.{subprogram_body, a_unit, task_body, protected_body, entry_body, an_accept, a_block, a_loop, a_record}
 use Rattle.ada_regions.specs.Declaring.{entered, type_of_kind}
-use Rattle.ada_regions.specs.Completions.{entity_bound, is_unit, task_scoped, task_numbered, body_of_unit, first_body, body_here, body_begun_at, body_begun, body_apart, seen_again}
-use Rattle.ada_regions.specs.Regions.{scope_begun, context_again, package_opened, package_begun, package_body_begun, package_named, with_context, unit_frame, record_frame, type_at, region_at, entity_or_none, opened_if, unit_begun, record_begun, entry_owner, entry_body_numbered, entry_body_begun, begun}
+use Rattle.ada_regions.specs.Completions.{entity_bound, is_unit, task_scoped, task_numbered, body_of_unit}
+use Rattle.ada_regions.specs.Completions.{first_body, body_here, body_begun_at, body_begun, body_apart, seen_again}
+use Rattle.ada_regions.specs.Regions.{scope_begun, context_again, package_opened, package_begun, package_body_begun, package_named}
+use Rattle.ada_regions.specs.Regions.{with_context, unit_frame, record_frame, type_at, region_at, entity_or_none, opened_if}
+use Rattle.ada_regions.specs.Regions.{unit_begun, record_begun, entry_owner, entry_body_numbered, entry_body_begun, begun}
 use Rattle.source_laws.proofs.Names.Known.{Known, known}
 
 -- ---- what was just declared is found
@@ -37,7 +42,8 @@ denoted-noted place d lines = go (item_at place.line lines) refl
     go : (x : Option (List (ℕ × Denoted))) → item_at place.line lines ≡ x → denoted_in (noted_among x place d lines) place ≡ Some d
     go None e = ap (λ y. and_then y (item_at place.column)) (item_at-put place.line (put place.column d []) lines) ∙ item_at-put place.column d []
     go (Some columns) e =
-        ap (λ y. and_then y (item_at place.column)) (item_at-with_item place.line (put place.column d columns) columns lines e) ∙ item_at-put place.column d columns
+        ap (λ y. and_then y (item_at place.column)) (item_at-with_item place.line (put place.column d columns) columns lines e)
+        ∙ item_at-put place.column d columns
 
 pub entered-denoted : (f : Enclosure) (taken : Bool) (i : Identifier) (kind : EntityKind) (region : Option ℕ) (n : Names)
     → entity_denoted (entered f taken i kind region n) i.place ≡ Some (length n.entities)
@@ -111,11 +117,13 @@ known-own (a_record i) n own = absurd own
 abbrev pub begun_again : ℕ → Bool → Known → Known
 begun_again region exports k = record k { opened = record { region = region; exports = exports } ∷ k.opened }
 
-pub known-unit_begun : (e : Option ℕ) (i : Identifier) (n : Names) (region : ℕ) → region_at n e ≡ Some region → known (unit_begun e i n) ≡ begun_again region true (known n)
+pub known-unit_begun : (e : Option ℕ) (i : Identifier) (n : Names) (region : ℕ) → region_at n e ≡ Some region
+    → known (unit_begun e i n) ≡ begun_again region true (known n)
 unfolding unit_begun
 known-unit_begun e i n region there = ap (λ x. known (opened_if (option_map (unit_frame (entity_or_none e) i (type_at n e)) x) n)) there
 
-pub known-record_begun : (e : Option ℕ) (i : Identifier) (n : Names) (region : ℕ) → region_at n e ≡ Some region → known (record_begun e i n) ≡ begun_again region true (known n)
+pub known-record_begun : (e : Option ℕ) (i : Identifier) (n : Names) (region : ℕ) → region_at n e ≡ Some region
+    → known (record_begun e i n) ≡ begun_again region true (known n)
 unfolding record_begun
 known-record_begun e i n region there = ap (λ x. known (opened_if (option_map (record_frame i (type_at n e)) x) n)) there
 
@@ -141,7 +149,8 @@ pub known-package_apart : (i : Identifier) (n : Names) → package_named n i.tex
 unfolding begun package_body_begun body_apart
 known-package_apart i n named = ap (λ x. known (package_body_begun x i n)) named
 
-pub known-context_again : (x : Option PackageContext) (n : Names) (c : PackageContext) → x ≡ Some c → known (context_again x n) ≡ begun_again c.region false (known n)
+pub known-context_again : (x : Option PackageContext) (n : Names) (c : PackageContext) → x ≡ Some c
+    → known (context_again x n) ≡ begun_again c.region false (known n)
 unfolding context_again
 known-context_again x n c e = ap (λ y. known (context_again y n)) e
 
@@ -164,7 +173,8 @@ known-task_scoped (Some t) (Some scope) n = known-task_numbered t scope n
 abbrev pub with_body_of : ℕ → Known → Known
 with_body_of e k = record k { bodies = e ∷ k.bodies }
 
-pub known-body_of_unit : (e region : ℕ) (i : Identifier) (scope : Option ℕ) (n : Names) → known (body_of_unit e region i scope n) ≡ with_body_of e (begun_again region false (known n))
+pub known-body_of_unit : (e region : ℕ) (i : Identifier) (scope : Option ℕ) (n : Names)
+    → known (body_of_unit e region i scope n) ≡ with_body_of e (begun_again region false (known n))
 unfolding body_of_unit
 known-body_of_unit e region i scope n = ap (with_body_of e) (known-task_scoped (and_then (kind_at n e) type_of_kind) scope _)
 

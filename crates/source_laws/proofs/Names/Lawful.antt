@@ -1,5 +1,6 @@
 -- The laws of names hold: what the way through a text keeps, said of the tables of sources.
-use Rattle.std.proofs.Common.{◌≡◌, inl, inr, ℕ, zero, suc, true, List, [], ◌∷◌, ◌++◌, length, map, Option, Some, None, option_map, IsTrue, refl, sym, ap, subst, ◌∙◌, arith}
+use Rattle.std.proofs.Common.{◌≡◌, inl, inr, ℕ, zero, suc, true, List, [], ◌∷◌, ◌++◌, length, map}
+use Rattle.std.proofs.Common.{Option, Some, None, option_map, IsTrue, refl, sym, ap, subst, ◌∙◌, arith}
 use Rattle.ann_base.specs.declared.places.Place.{Place}
 use Rattle.ada_tree.specs.declared.units.Unit.{Unit as Tree}
 use Rattle.ada_regions.specs.declared.predefined.Predefined.{Predefined}
@@ -21,7 +22,8 @@ use Rattle.ada_regions.specs.NamesInUnits.{names_in_unit}
 use Rattle.ada_regions.specs.Numbered.{behind_all, last_priority_of}
 use Rattle.source_laws.specs.Positions.{Before, Stands, read_on, around_behind, around, end_of, nearest}
 use Rattle.source_laws.specs.Declarations.{declaration, declares_name, hides_name}
-use Rattle.source_laws.specs.Regions.{number_of, number_of_innermost, region_of_position, first_or_none, bodies_complete_before, bodies_complete, completes_if_body}
+use Rattle.source_laws.specs.Regions.{number_of, number_of_innermost, region_of_position, first_or_none}
+use Rattle.source_laws.specs.Regions.{bodies_complete_before, bodies_complete, completes_if_body}
 use Rattle.source_laws.specs.DirectNames.{Meaning, meaning_of, meaning_if_seen, place_declared, declared_in_region, declared_around, direct_meaning}
 use Rattle.source_laws.specs.Tables.{table_at}
 use Rattle.source_laws.specs.Denoted.{told_meaning}
@@ -65,8 +67,10 @@ kept-in unit c complete s = kept (last_priority_of unit.pragmas) c (text-stands 
 pub regions_by_position : RegionsByPosition
 regions_by_position unit complete b c s t =
     let last = last_priority_of unit.pragmas in
-    let k = kept-in unit (end_of unit) complete (stands-here (end_of unit)) in
-    ((λ e. k.regions.same b c s t (sym (region-here last b) ∙ (e ∙ region-here last c))), (λ e. region-here last b ∙ (k.regions.alike b c s t e ∙ sym (region-here last c))))
+    let k = kept-in unit (end_of unit) complete (stands-here (end_of unit)) in (
+      (λ e. k.regions.same b c s t (sym (region-here last b) ∙ (e ∙ region-here last c))),
+      (λ e. region-here last b ∙ (k.regions.alike b c s t e ∙ sym (region-here last c))),
+    )
 
 length-numbers : (fs : List Frame) → length (numbers_of (map opened_as fs)) ≡ length fs
 length-numbers [] = refl
@@ -85,7 +89,8 @@ open_regions_by_position unit complete c s =
     let last = last_priority_of unit.pragmas in
     let k = kept-in unit c complete s in
     let frames : length (numbers_of (known_at last c).opened) ≡ length (table_at last c).frames = length-numbers (table_at last c).frames in
-    let opened : length (numbers_of (known_at last c).opened) ≡ suc (length (map (here_at last) (around c))) = ap length k.regions.opened ∙ length-one_more (map (here_at last) (around c)) in
+    let opened : length (numbers_of (known_at last c).opened) ≡ suc (length (map (here_at last) (around c))) =
+    ap length k.regions.opened ∙ length-one_more (map (here_at last) (around c)) in
     let around-length : length (map (here_at last) (around c)) ≡ length (around c) = length-mapped (here_at last) (around c) in
     omega arith
 
@@ -100,10 +105,12 @@ bound-placed n None = refl
 bound-placed n (Some b) = refl
 
 -- the entities are those of a later position e
-said-placed : (last : ℕ) (c e : Before) (region : ℕ) (name : List ℕ) → Stands c e → Kept last e → placed (table_at last e) (said last region name c) ≡ declared_in_region region name c
+said-placed : (last : ℕ) (c e : Before) (region : ℕ) (name : List ℕ) → Stands c e → Kept last e
+    → placed (table_at last e) (said last region name c) ≡ declared_in_region region name c
 said-placed last c e region name s k = go (declaration number_of_innermost region name c) (nearest (hides_name number_of_innermost region name) c) refl
   where
-    go : (d h : Option Before) → declaration number_of_innermost region name c ≡ d → placed (table_at last e) (said_by last d h) ≡ option_or (option_map place_declared d) (option_map (λ b. None) h)
+    go : (d h : Option Before) → declaration number_of_innermost region name c ≡ d
+        → placed (table_at last e) (said_by last d h) ≡ option_or (option_map place_declared d) (option_map (λ b. None) h)
     go None None q = refl
     go None (Some h) q = refl
     go (Some []) h q = absurd (no_start (declares_name number_of_innermost region name) c q)
@@ -145,7 +152,8 @@ abbrev first_of : Bindings → List ℕ → List ℕ → Option Binding
 first_of bindings name [] = None
 first_of bindings name (r ∷ rs) = option_or (binding_in bindings r name) (first_of bindings name rs)
 
-innermost-first_of : (bindings : Bindings) (name : List ℕ) (fs : List Frame) → innermost_binding bindings name fs ≡ first_of bindings name (numbers_of (map opened_as fs))
+innermost-first_of : (bindings : Bindings) (name : List ℕ) (fs : List Frame)
+    → innermost_binding bindings name fs ≡ first_of bindings name (numbers_of (map opened_as fs))
 innermost-first_of bindings name [] = refl
 innermost-first_of bindings name (f ∷ fs) = ap (option_or (binding_in bindings f.region name)) (innermost-first_of bindings name fs)
 
@@ -162,14 +170,16 @@ declared-first : (last : ℕ) (c e : Before) (name : List ℕ) → Kept last c �
 unfolding AllAround
 declared-first last c e name k s later [] a =
     ap (λ x. placed (table_at last e) (told_of x)) (else-none (binding_in (table_at last c).bindings 0 name))
-    ∙ (ap (placed (table_at last e)) (k.bindings.binds [] (stands-start c) name) ∙ (said-placed last c e (region_of_position []) name s later ∙ ap (λ r. declared_in_region r name c) number-start))
+    ∙ (ap (placed (table_at last e)) (k.bindings.binds [] (stands-start c) name)
+    ∙ (said-placed last c e (region_of_position []) name s later ∙ ap (λ r. declared_in_region r name c) number-start))
 declared-first last c e name k s later (b ∷ bs) a =
     let here = binding_in (table_at last c).bindings (here_at last b) name in
     let further = first_of (table_at last c).bindings name (map (here_at last) bs ++ 0 ∷ []) in
     ap (placed (table_at last e)) (else-mapped (λ (x : Binding). x.entity) here further)
     ∙ (else-mapped (λ x. and_then x (λ y. option_map (λ (z : Entity). z.place) (entity_at (table_at last e) y))) (told_of here) (told_of further)
     ∙ (ap (λ x. option_or x (placed (table_at last e) (told_of further)))
-    (ap (placed (table_at last e)) (k.bindings.binds b a.0 name) ∙ (said-placed last c e (region_of_position b) name s later ∙ ap (λ z. declared_in_region (number_of z) name c) a.1))
+    (ap (placed (table_at last e)) (k.bindings.binds b a.0 name)
+    ∙ (said-placed last c e (region_of_position b) name s later ∙ ap (λ z. declared_in_region (number_of z) name c) a.1))
     ∙ ap (option_or (declared_in_region (number_of b) name c)) (declared-first last c e name k s later bs a.2)))
 
 -- what a binding is told to mean
@@ -180,22 +190,26 @@ meant-placed : (n : Names) (b : Option Binding) → meant n b ≡ option_map mea
 meant-placed n None = refl
 meant-placed n (Some b) = go b.entity
   where
-    go : (e : Option ℕ) → Some (told_meaning n (option_map denotes.Entity e)) ≡ Some (meaning_if_seen (and_then e (λ x. option_map (λ (y : Entity). y.place) (entity_at n x))))
+    go : (e : Option ℕ)
+        → Some (told_meaning n (option_map denotes.Entity e)) ≡ Some (meaning_if_seen (and_then e (λ x. option_map (λ (y : Entity). y.place) (entity_at n x))))
     go None = refl
     go (Some e) = refl
 
-standard-meant : (n : Names) (last : ℕ) (name : List ℕ) → option_map (told_meaning n) (option_map Some (in_standard last name)) ≡ option_map meaning_of (in_standard last name)
+standard-meant : (n : Names) (last : ℕ) (name : List ℕ)
+    → option_map (told_meaning n) (option_map Some (in_standard last name)) ≡ option_map meaning_of (in_standard last name)
 unfolding in_standard item_of
 standard-meant n last name = go units.Standard (item_in last units.Standard name) (root_unit name)
   where
     go : (unit : PredefinedUnit) (i : Option Predefined) (u : Option PredefinedUnit)
-        → option_map (told_meaning n) (option_map Some (option_or (option_map (denotes.Item unit) i) (option_map denotes.Unit u))) ≡ option_map meaning_of (option_or (option_map (denotes.Item unit) i) (option_map denotes.Unit u))
+        → option_map (told_meaning n) (option_map Some (option_or (option_map (denotes.Item unit) i) (option_map denotes.Unit u)))
+        ≡ option_map meaning_of (option_or (option_map (denotes.Item unit) i) (option_map denotes.Unit u))
     go unit None None = refl
     go unit None (Some u) = refl
     go unit (Some i) u = refl
 
 -- told by the table of a later position e
-pub directly-meant : (last : ℕ) (c e : Before) (name : List ℕ) → Stands c e → Kept last c → Kept last e → option_map (told_meaning (table_at last e)) (directly (table_at last c) name) ≡ direct_meaning last name c
+pub directly-meant : (last : ℕ) (c e : Before) (name : List ℕ) → Stands c e → Kept last c → Kept last e
+    → option_map (told_meaning (table_at last e)) (directly (table_at last c) name) ≡ direct_meaning last name c
 unfolding directly
 directly-meant last c e name s k later =
     let n : Names = table_at last c in
@@ -203,11 +217,13 @@ directly-meant last c e name s k later =
     let found = innermost_binding n.bindings name n.frames in
     let by_nesting : meant m found ≡ option_map meaning_if_seen (declared_around name c (around c)) =
     meant-placed m found
-    ∙ (ap (λ x. option_map meaning_if_seen (placed m (told_of x))) (innermost-first_of n.bindings name n.frames ∙ ap (first_of n.bindings name) k.regions.opened)
+    ∙ (ap (λ x. option_map meaning_if_seen (placed m (told_of x)))
+    (innermost-first_of n.bindings name n.frames ∙ ap (first_of n.bindings name) k.regions.opened)
     ∙ ap (option_map meaning_if_seen) (declared-first last c e name k s later (around c) (all-around 0 c))) in
     else-mapped (told_meaning m) (option_map bound found) (option_map Some (in_standard n.last_priority name))
     ∙ (ap (λ x. option_or x (option_map (told_meaning m) (option_map Some (in_standard n.last_priority name)))) by_nesting
-    ∙ ap (option_or (option_map meaning_if_seen (declared_around name c (around c)))) (ap (λ p. option_map (told_meaning m) (option_map Some (in_standard p name))) k.priority ∙ standard-meant m last name))
+    ∙ ap (option_or (option_map meaning_if_seen (declared_around name c (around c))))
+    (ap (λ p. option_map (told_meaning m) (option_map Some (in_standard p name))) k.priority ∙ standard-meant m last name))
 
 pub directly_by_position : DirectlyByPosition
 directly_by_position unit complete c s name =

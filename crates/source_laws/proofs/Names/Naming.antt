@@ -55,8 +55,11 @@ meanings_by_position unit complete apart o c s i name =
     let here : Stands c end = stands-tail o c end s in
     let first = first-place o i name in
     let rest = first.0 in
-    let differ : all_differ (i.place ∷ (rest ++ places_before c)) ≡ true = ap (λ ps. all_differ (ps ++ places_before c)) (sym first.1) ∙ differ-at (o ∷ c) end s apart in
-    let alone : is_among i.place (rest ++ places_before c) ≡ false = not-true (is_among i.place (rest ++ places_before c)) (and_parts (not (is_among i.place (rest ++ places_before c))) (all_differ (rest ++ places_before c)) differ).0 in
+    let differ : all_differ (i.place ∷ (rest ++ places_before c)) ≡ true =
+    ap (λ ps. all_differ (ps ++ places_before c)) (sym first.1) ∙ differ-at (o ∷ c) end s apart in
+    let alone : is_among i.place (rest ++ places_before c) ≡ false =
+    not-true (is_among i.place (rest ++ places_before c))
+    (and_parts (not (is_among i.place (rest ++ places_before c))) (all_differ (rest ++ places_before c)) differ).0 in
     let both = both-false i.place (is_among i.place rest) (is_among i.place (places_before c)) (sym (among-append i.place rest (places_before c)) ∙ alone) in
     let among : is_among i.place (places_before (o ∷ c)) ≡ true =
     ap (λ ps. is_among i.place (ps ++ places_before c)) first.1 ∙ ap (λ t. t || is_among i.place (rest ++ places_before c)) (same_place-itself i.place) in
@@ -65,7 +68,9 @@ meanings_by_position unit complete apart o c s i name =
     stays-noted last i.place (o ∷ c) end s apart among
     ∙ (first.2 (table_at last c) both.0 ∙ found-noted i (table_at last c) (never-noted last i.place c both.1)))
     ∙ (found-told (table_at last end) (sought (table_at last c) i.text)
-    ∙ ap known_meaning (all-say last end (unit-text unit) (unit-placed unit) complete apart end (stands-here end) c here (name-looks o i c name (placed-stands (o ∷ c) end s (unit-placed unit)).0) i.text)))
+    ∙ ap known_meaning
+    (all-say last end (unit-text unit) (unit-placed unit) complete apart end (stands-here end) c here
+    (name-looks o i c name (placed-stands (o ∷ c) end s (unit-placed unit)).0) i.text)))
 
 -- ---- all names of a source, by computing
 
@@ -73,10 +78,12 @@ stands-on : (os : Occurrences) (b before : Before) → Stands b before → Stand
 stands-on [] b before s = s
 stands-on (o ∷ os) b before s = stands-on os b (o ∷ before) (inr s)
 
-agrees-all : (n : Names) (last : ℕ) (os : Occurrences) (before : Before) → ((o : Occurrence) (c : Before) → Stands (o ∷ c) (read_on os before) → agrees_with n last o c ≡ true) → agrees_from n last before os ≡ true
+agrees-all : (n : Names) (last : ℕ) (os : Occurrences) (before : Before)
+    → ((o : Occurrence) (c : Before) → Stands (o ∷ c) (read_on os before) → agrees_with n last o c ≡ true) → agrees_from n last before os ≡ true
 agrees-all n last [] before all = refl
 agrees-all n last (o ∷ os) before all =
-    both (agrees_with n last o before) (agrees_from n last (o ∷ before) os) (all o before (stands-on os (o ∷ before) (o ∷ before) (inl refl))) (agrees-all n last os (o ∷ before) all)
+    both (agrees_with n last o before) (agrees_from n last (o ∷ before) os) (all o before (stands-on os (o ∷ before) (o ∷ before) (inl refl)))
+    (agrees-all n last os (o ∷ before) all)
   where
     both : (a b : Bool) → a ≡ true → b ≡ true → (a && b) ≡ true
     both true b e f = f
@@ -85,7 +92,9 @@ agrees-all n last (o ∷ os) before all =
 same-meanings : (a b : Meaning) → a ≡ b → same_meaning a b ≡ true
 same-meanings a b e = ap (λ z. same_meaning z b) e ∙ same_meaning-itself b
 
-agrees-one : (n : Names) (last : ℕ) (o : Occurrence) (c : Before) → ((i : Identifier) → direct_name o ≡ Some i → told_meaning n (denoted_at n i.place) ≡ known_meaning (direct_name_means last i.text c)) → agrees_with n last o c ≡ true
+agrees-one : (n : Names) (last : ℕ) (o : Occurrence) (c : Before)
+    → ((i : Identifier) → direct_name o ≡ Some i → told_meaning n (denoted_at n i.place) ≡ known_meaning (direct_name_means last i.text c))
+    → agrees_with n last o c ≡ true
 agrees-one n last (mentions name) c says = same-meanings _ _ (says name.parts.first refl)
 agrees-one n last (mentions_simply i) c says = same-meanings _ _ (says i refl)
 agrees-one n last (use_package name) c says = same-meanings _ _ (says name.parts.first refl)
@@ -94,4 +103,5 @@ agrees-one n last _ c says = refl
 pub names_by_position : NamesByPosition
 names_by_position unit complete apart =
     let last = last_priority_of unit.pragmas in
-    agrees-all (names_of unit) last (names_in_unit unit) [] (λ o c s. agrees-one (names_of unit) last o c (λ i name. meanings_by_position unit complete apart o c s i name))
+    agrees-all (names_of unit) last (names_in_unit unit) []
+    (λ o c s. agrees-one (names_of unit) last o c (λ i name. meanings_by_position unit complete apart o c s i name))

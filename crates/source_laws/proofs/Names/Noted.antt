@@ -1,5 +1,6 @@
 -- What the table keeps of the name at a place changes with the occurrences that have a name at this place, and with no others.
-use Rattle.std.proofs.Common.{◌≡◌, ℕ, Bool, true, false, cond, ◌&&◌, ◌||◌, List, [], ◌∷◌, length, map, Option, Some, None, is_some, eqb, refl, sym, ap, ◌∙◌, eqb-true}
+use Rattle.std.proofs.Common.{◌≡◌, ℕ, Bool, true, false, cond, ◌&&◌, ◌||◌, List, [], ◌∷◌, length}
+use Rattle.std.proofs.Common.{map, Option, Some, None, is_some, eqb, refl, sym, ap, ◌∙◌, eqb-true}
 use borrow.Author.Tests.{eqb-false}
 use Rattle.world_tables.specs.Tables.{item_at, put, with_item}
 use Rattle.source_laws.proofs.Names.TableLemmas.{item_at-put, item_at-put-other, item_at-with_item, item_at-with_item-other}
@@ -25,13 +26,26 @@ use Rattle.ada_regions.specs.declared.table.Frame.{Frame}
 use Rattle.ada_regions.specs.declared.table.PackageContext.{PackageContext}
 use Rattle.ada_regions.specs.declared.table.Names.{Names}
 use Rattle.ada_regions.specs.Words.{and_then, same_place}
-use Rattle.ada_regions.specs.Names.{Denotations, noted, noted_among, noted_in, denoted_in, denoted_at, last_part, enclosure_here, region_here, scope_in, kind_at, region_of_entity, entity_denoted}
-use Rattle.ada_regions.specs.Occurrences.{Occurrence, Declared, Region, the_package, the_main_procedure, an_object, a_component, a_parameter, a_loop_parameter, an_enumeration, a_literal, an_array, a_derived_type, a_subtype, an_exception, a_label, a_subprogram, an_entry, a_task, a_protected, the_context, the_context_of, further_context, package_region, package_body, main_body, a_profile, subprogram_body, a_unit, task_body, protected_body, entry_body, an_accept, a_block, a_loop, a_record, begins, ends, private_from_here, hides, heads, declares, declares_unit, completes, is_called, mentions, mentions_simply, mentions_entry, with_unit, use_package}
+use Rattle.ada_regions.specs.Names.{Denotations, noted, noted_among, noted_in, denoted_in, denoted_at, last_part}
+use Rattle.ada_regions.specs.Names.{enclosure_here, region_here, scope_in, kind_at, region_of_entity, entity_denoted}
+use Rattle.ada_regions.specs.Occurrences.{Occurrence, Declared, Region, the_package, the_main_procedure, an_object, a_component, a_parameter}
+use Rattle.ada_regions.specs.Occurrences.{a_loop_parameter, an_enumeration, a_literal, an_array, a_derived_type, a_subtype, an_exception, a_label}
+use Rattle.ada_regions.specs.Occurrences.{a_subprogram, an_entry, a_task, a_protected, the_context, the_context_of, further_context, package_region}
+use Rattle.ada_regions.specs.Occurrences.{package_body, main_body, a_profile, subprogram_body, a_unit, task_body, protected_body, entry_body}
+use Rattle.ada_regions.specs.Occurrences.{an_accept, a_block, a_loop, a_record, begins, ends, private_from_here, hides, heads, declares}
+use Rattle.ada_regions.specs.Occurrences.{declares_unit, completes, is_called, mentions, mentions_simply, mentions_entry, with_unit, use_package}
 use Rattle.ada_regions.specs.Visibility.{sought, answered, resolved}
 use Rattle.ada_regions.specs.SelectedNames.{selected, selection_answered, parts_resolved, name_resolved}
-use Rattle.ada_regions.specs.Declaring.{hidden, with_binding, entered, entered_here, entered_as_unit, is_taken, type_of_kind, declared, object_declared, component_declared, parameter_declared, loop_parameter_declared, enumeration_declared, literal_declared, array_declared, derived_declared, subtype_declared, exception_declared, subprogram_declared, entry_declared, unit_entered, task_declared, protected_declared, numbered}
-use Rattle.ada_regions.specs.Completions.{specified_number, headed, completed_in, owned, numbered_if, body_of_declared, completed_or_declared, completed, is_unit, has_body, task_scoped, task_numbered, body_of_unit, first_body, later_body, body_here, body_elsewhere, body_sought, body_begun_at, body_begun, body_apart, seen_again, entity_bound, entry_noted, entry_mentioned}
-use Rattle.ada_regions.specs.Regions.{scope_begun, context_again, package_opened, package_begun, package_body_begun, with_context, opened_if, unit_begun, record_begun, entry_owner, entry_body_numbered, entry_body_begun, begun, with_scope, next_scope, withed, library_unit, used_if, is_used_package, used}
+use Rattle.ada_regions.specs.Declaring.{hidden, with_binding, entered, entered_here, entered_as_unit, is_taken, type_of_kind, declared}
+use Rattle.ada_regions.specs.Declaring.{object_declared, component_declared, parameter_declared, loop_parameter_declared, enumeration_declared}
+use Rattle.ada_regions.specs.Declaring.{literal_declared, array_declared, derived_declared, subtype_declared, exception_declared}
+use Rattle.ada_regions.specs.Declaring.{subprogram_declared, entry_declared, unit_entered, task_declared, protected_declared, numbered}
+use Rattle.ada_regions.specs.Completions.{specified_number, headed, completed_in, owned, numbered_if, body_of_declared, completed_or_declared, completed}
+use Rattle.ada_regions.specs.Completions.{is_unit, has_body, task_scoped, task_numbered, body_of_unit, first_body, later_body, body_here, body_elsewhere}
+use Rattle.ada_regions.specs.Completions.{body_sought, body_begun_at, body_begun, body_apart, seen_again, entity_bound, entry_noted, entry_mentioned}
+use Rattle.ada_regions.specs.Regions.{scope_begun, context_again, package_opened, package_begun, package_body_begun, with_context}
+use Rattle.ada_regions.specs.Regions.{opened_if, unit_begun, record_begun, entry_owner, entry_body_numbered, entry_body_begun}
+use Rattle.ada_regions.specs.Regions.{begun, with_scope, next_scope, withed, library_unit, used_if, is_used_package, used}
 use Rattle.ada_regions.specs.Numbered.{behind}
 use Rattle.source_laws.specs.Places.{place_of, places_of_parts, places_in, is_among}
 
@@ -42,13 +56,15 @@ unfolding item_at
 noted-other q p d lines other = by_line (eqb p.line q.line) refl
   where
     -- on the line of q, in another column
-    on_line : p.line ≡ q.line → (p.column ≡ q.column → ⊥) → (x : Option (List (ℕ × Denoted))) → item_at q.line lines ≡ x → denoted_in (noted_among x q d lines) p ≡ and_then x (item_at p.column)
+    on_line : p.line ≡ q.line → (p.column ≡ q.column → ⊥) → (x : Option (List (ℕ × Denoted))) → item_at q.line lines ≡ x
+        → denoted_in (noted_among x q d lines) p ≡ and_then x (item_at p.column)
     on_line same column None e =
         ap (λ l. and_then (item_at l (put q.line (put q.column d []) lines)) (item_at p.column)) same
         ∙ (ap (λ y. and_then y (item_at p.column)) (item_at-put q.line (put q.column d []) lines) ∙ item_at-put-other p.column q.column d [] column)
     on_line same column (Some columns) e =
         ap (λ l. and_then (item_at l (with_item q.line (put q.column d columns) lines)) (item_at p.column)) same
-        ∙ (ap (λ y. and_then y (item_at p.column)) (item_at-with_item q.line (put q.column d columns) columns lines e) ∙ item_at-put-other p.column q.column d columns column)
+        ∙ (ap (λ y. and_then y (item_at p.column)) (item_at-with_item q.line (put q.column d columns) columns lines e)
+        ∙ item_at-put-other p.column q.column d columns column)
 
     on_other : (p.line ≡ q.line → ⊥) → (x : Option (List (ℕ × Denoted))) → denoted_in (noted_among x q d lines) p ≡ denoted_in lines p
     on_other line None = ap (λ y. and_then y (item_at p.column)) (item_at-put-other p.line q.line (put q.column d []) lines line)
@@ -85,7 +101,8 @@ module _ (p : Place) where
   both-false true b e = cc
   both-false false b e = (refl, e)
 
-  pub same-parts : (prefix : Option Denoted) (parts : List Identifier) (n : Names) → is_among p (map place_of parts) ≡ false → Same p n (parts_resolved prefix parts n)
+  pub same-parts : (prefix : Option Denoted) (parts : List Identifier) (n : Names) → is_among p (map place_of parts) ≡ false
+      → Same p n (parts_resolved prefix parts n)
   same-parts prefix [] n others = refl
   same-parts None (i ∷ rest) n others = refl
   same-parts (Some d) (i ∷ rest) n others =
@@ -117,26 +134,31 @@ module _ (p : Place) where
 
   -- ---- declarations
 
-  same-entered : (f : Enclosure) (taken : Bool) (i : Identifier) (kind : EntityKind) (region : Option ℕ) (n : Names) → same_place p i.place ≡ false → Same p n (entered f taken i kind region n)
+  same-entered : (f : Enclosure) (taken : Bool) (i : Identifier) (kind : EntityKind) (region : Option ℕ) (n : Names) → same_place p i.place ≡ false
+      → Same p n (entered f taken i kind region n)
   unfolding entered
   same-entered f true i kind region n other = noted-other i.place p (denotes.Entity (length n.entities)) n.denotations other
   same-entered f false i kind region n other = noted-other i.place p (denotes.Entity (length n.entities)) n.denotations other
 
-  same-here : (i : Identifier) (kind : EntityKind) (region : Option ℕ) (n m last : Names) → last ≡ entered_here i kind region m → Same p n m → same_place p i.place ≡ false → Same p n last
+  same-here : (i : Identifier) (kind : EntityKind) (region : Option ℕ) (n m last : Names) → last ≡ entered_here i kind region m → Same p n m
+      → same_place p i.place ≡ false → Same p n last
   unfolding entered_here
   same-here i kind region n m last e same other =
       ap (λ z. denoted_at z p) e ∙ (same-entered (enclosure_here m) (is_taken m (region_here m) i.text) i kind region m other ∙ same)
 
-  same-as_unit : (i : Identifier) (kind : EntityKind) (region : Option ℕ) (n m last : Names) → last ≡ entered_as_unit i kind region m → Same p n m → same_place p i.place ≡ false → Same p n last
+  same-as_unit : (i : Identifier) (kind : EntityKind) (region : Option ℕ) (n m last : Names) → last ≡ entered_as_unit i kind region m → Same p n m
+      → same_place p i.place ≡ false → Same p n last
   unfolding entered_as_unit
   same-as_unit i kind region n m last e same other = ap (λ z. denoted_at z p) e ∙ (same-entered _ _ i kind region m other ∙ same)
 
-  same-subprogram : (f : Enclosure) (specified : Bool) (scope : ℕ) (i : Identifier) (s : SubprogramSpecification) (n : Names) → same_place p i.place ≡ false → Same p n (subprogram_declared f specified scope i s n)
+  same-subprogram : (f : Enclosure) (specified : Bool) (scope : ℕ) (i : Identifier) (s : SubprogramSpecification) (n : Names) → same_place p i.place ≡ false
+      → Same p n (subprogram_declared f specified scope i s n)
   unfolding subprogram_declared
   same-subprogram f specified scope i s n other = same-entered f (is_taken n f.region i.text) i _ None _ other
 
   same-declared : (i : Identifier) (what : Declared) (n : Names) → same_place p i.place ≡ false → Same p n (declared i what n)
-  unfolding declared object_declared component_declared parameter_declared loop_parameter_declared enumeration_declared literal_declared array_declared derived_declared subtype_declared exception_declared entry_declared unit_entered task_declared protected_declared numbered
+  unfolding declared object_declared component_declared parameter_declared loop_parameter_declared enumeration_declared literal_declared array_declared
+      derived_declared subtype_declared exception_declared entry_declared unit_entered task_declared protected_declared numbered
   same-declared i the_package n other = same-as_unit i _ _ n _ _ refl refl other
   same-declared i the_main_procedure n other = same-as_unit i _ _ n _ _ refl refl other
   same-declared i (an_object o) n other = same-here i _ _ n _ _ refl refl other
@@ -179,10 +201,12 @@ module _ (p : Place) where
   same-numbered_if s n None = refl
   same-numbered_if s n (Some number) = refl
 
-  same-completed_or : (f : Enclosure) (e : Option ℕ) (i : Identifier) (s : SubprogramSpecification) (n : Names) → same_place p i.place ≡ false → Same p n (completed_or_declared f e i s n)
+  same-completed_or : (f : Enclosure) (e : Option ℕ) (i : Identifier) (s : SubprogramSpecification) (n : Names) → same_place p i.place ≡ false
+      → Same p n (completed_or_declared f e i s n)
   unfolding completed_or_declared body_of_declared
   same-completed_or f (Some e) i s n other =
-      noted-other i.place p (denotes.Entity e) (numbered_if s n (and_then (kind_at n e) specified_number)).denotations other ∙ same-numbered_if s n (and_then (kind_at n e) specified_number)
+      noted-other i.place p (denotes.Entity e) (numbered_if s n (and_then (kind_at n e) specified_number)).denotations other
+      ∙ same-numbered_if s n (and_then (kind_at n e) specified_number)
   same-completed_or f None i s n other = same-subprogram f false (scope_in n.frames) i s n other
 
   same-completed : (i : Identifier) (s : SubprogramSpecification) (n : Names) → same_place p i.place ≡ false → Same p n (completed i s n)
@@ -191,7 +215,8 @@ module _ (p : Place) where
 
   -- ---- beginnings of regions
 
-  same-entry_body : (place : Place) (e : Option ℕ) (barrier : Expression) (n : Names) (number : Option EntryNo) → Same p n (scope_begun place false e None (entry_body_numbered barrier n number))
+  same-entry_body : (place : Place) (e : Option ℕ) (barrier : Expression) (n : Names) (number : Option EntryNo)
+      → Same p n (scope_begun place false e None (entry_body_numbered barrier n number))
   unfolding scope_begun entry_body_numbered
   same-entry_body place e barrier n None = refl
   same-entry_body place e barrier n (Some number) = refl
@@ -218,7 +243,8 @@ module _ (p : Place) where
   same-package_body : (e : Option ℕ) (i : Identifier) (n : Names) → same_place p i.place ≡ false → Same p n (package_body_begun e i n)
   unfolding package_body_begun body_apart
   same-package_body None i n other = refl
-  same-package_body (Some e) i n other = same-package_opened e i false (region_of_entity n e) (noted i.place (denotes.Entity e) n) ∙ noted-other i.place p (denotes.Entity e) n.denotations other
+  same-package_body (Some e) i n other =
+      same-package_opened e i false (region_of_entity n e) (noted i.place (denotes.Entity e) n) ∙ noted-other i.place p (denotes.Entity e) n.denotations other
 
   same-task_numbered : (t : AdaType) (scope : ℕ) (n : Names) → Same p n (task_numbered t scope n)
   same-task_numbered (types.Task u) scope n = refl
@@ -252,12 +278,14 @@ module _ (p : Place) where
   same-later_body e None i scope n = same-apart None i scope [] n
   same-later_body e (Some region) i scope n = same-apart (Some e) i scope (seen_again n region) n
 
-  same-body_here : (kind : UnitKind) (e : ℕ) (i : Identifier) (scope : Option ℕ) (n : Names) → same_place p i.place ≡ false → Same p n (body_here kind e i scope n)
+  same-body_here : (kind : UnitKind) (e : ℕ) (i : Identifier) (scope : Option ℕ) (n : Names) → same_place p i.place ≡ false
+      → Same p n (body_here kind e i scope n)
   unfolding body_here
   same-body_here kind e i scope n other = go (is_unit kind n e)
     where
       go : (b : Bool) → Same p n (cond b (first_body e (region_of_entity n e) i scope (noted i.place (denotes.Entity e) n)) (body_apart None i scope [] n))
-      go true = same-first_body e (region_of_entity n e) i scope (noted i.place (denotes.Entity e) n) ∙ noted-other i.place p (denotes.Entity e) n.denotations other
+      go true =
+          same-first_body e (region_of_entity n e) i scope (noted i.place (denotes.Entity e) n) ∙ noted-other i.place p (denotes.Entity e) n.denotations other
       go false = same-apart None i scope [] n
 
   same-body_elsewhere : (kind : UnitKind) (e : Option ℕ) (i : Identifier) (scope : Option ℕ) (n : Names) → Same p n (body_elsewhere kind e i scope n)
@@ -288,7 +316,8 @@ module _ (p : Place) where
   same-begun a_profile n others = refl
   same-begun (subprogram_body place is_function) n others = refl
   same-begun (a_unit i) n others = same-opened_if _ n
-  same-begun (task_body i place) n others = same-body_begun unit.Task i (next_scope n) (with_scope place false false n) (both-false (same_place p i.place) false others).0
+  same-begun (task_body i place) n others =
+      same-body_begun unit.Task i (next_scope n) (with_scope place false false n) (both-false (same_place p i.place) false others).0
   same-begun (protected_body i) n others = same-body_begun unit.Protected i None n (both-false (same_place p i.place) false others).0
   same-begun (entry_body i place barrier) n others = same-entry_body place (entry_owner n (entity_denoted n i.place)) barrier n _
   same-begun (an_accept i place) n others = refl

@@ -5,8 +5,10 @@ use Rattle.ada_regions.specs.declared.entities.UnitKind.TheVariants as unit
 use Rattle.ada_regions.specs.Occurrences.{Occurrence, Region, the_context_of, package_body, task_body, protected_body, begins, declares, completes}
 use Rattle.source_laws.specs.Positions.{Before, Stands, around_behind, around, around_outside}
 use Rattle.source_laws.specs.Declarations.{is_package, is_unit_of, declares_here, starts_as_subprogram, body_completes, declares_name, declaration, if_so}
-use Rattle.source_laws.specs.Regions.{unit_declared, package_declared, region_behind, context_around, number_of_region, number_of_beginning, first_or_none, number_within, number_of, number_of_innermost, region_of_position}
-use Rattle.source_laws.proofs.Names.PositionLemmas.{stands-tail, stands-trans, stands-length, stands-here, outside-behind, first-length, nearest-same, nearest-stands}
+use Rattle.source_laws.specs.Regions.{unit_declared, package_declared, region_behind, context_around, number_of_region, number_of_beginning}
+use Rattle.source_laws.specs.Regions.{first_or_none, number_within, number_of, number_of_innermost, region_of_position}
+use Rattle.source_laws.proofs.Names.PositionLemmas.{stands-tail, stands-trans, stands-length, stands-here}
+use Rattle.source_laws.proofs.Names.PositionLemmas.{outside-behind, first-length, nearest-same, nearest-stands}
 
 -- two ways to number agree about all that stands before a position
 abbrev Agree : (List Before → ℕ) → (List Before → ℕ) → Before → Type 0
@@ -22,22 +24,26 @@ if_so-stands test (Some (o ∷ b)) d e = go (test o) e
     go false q = cc
 
 -- what was found as the nearest declaration stands before
-declared-stands : (f : List Before → ℕ) (test : Occurrence → Bool) (region : ℕ) (name : List ℕ) (before d : Before) → if_so test (declaration f region name before) ≡ Some d → Stands d before
+declared-stands : (f : List Before → ℕ) (test : Occurrence → Bool) (region : ℕ) (name : List ℕ) (before d : Before)
+    → if_so test (declaration f region name before) ≡ Some d → Stands d before
 declared-stands f test region name before d e = nearest-stands (declares_name f region name) before d (if_so-stands test (declaration f region name before) d e)
 
 module _ (f g : List Before → ℕ) (before : Before) (agree : Agree f g before) where
   outside-same : (b : Before) → Stands b before → f (around_outside b) ≡ g (around_outside b)
   outside-same b s = rw (outside-behind b) (agree 1 b s)
 
-  here-same : (region : ℕ) (name : List ℕ) (o : Occurrence) (b : Before) → Stands (o ∷ b) before → declares_here f region name o b ≡ declares_here g region name o b
+  here-same : (region : ℕ) (name : List ℕ) (o : Occurrence) (b : Before) → Stands (o ∷ b) before
+      → declares_here f region name o b ≡ declares_here g region name o b
   here-same region name (declares i what) b s = rw (agree 0 b (stands-tail (declares i what) b before s)) refl
   here-same region name _ b s = refl
 
   completes-same : (region : ℕ) (name : List ℕ) (b : Before) → Stands b before → body_completes f region name b ≡ body_completes g region name b
   completes-same region name b s =
-      ap starts_as_subprogram (nearest-same (declares_here f region name) (declares_here g region name) b (λ o c t. here-same region name o c (stands-trans (o ∷ c) b before t s)))
+      ap starts_as_subprogram
+      (nearest-same (declares_here f region name) (declares_here g region name) b (λ o c t. here-same region name o c (stands-trans (o ∷ c) b before t s)))
 
-  name-same : (region : ℕ) (name : List ℕ) (o : Occurrence) (b : Before) → Stands (o ∷ b) before → declares_name f region name o b ≡ declares_name g region name o b
+  name-same : (region : ℕ) (name : List ℕ) (o : Occurrence) (b : Before) → Stands (o ∷ b) before
+      → declares_name f region name o b ≡ declares_name g region name o b
   name-same region name (completes i s) b t =
       let here : Stands b before = stands-tail (completes i s) b before t in rw (outside-same b here, completes-same region name b here) refl
   name-same region name (declares i what) b t = here-same region name (declares i what) b t
@@ -99,22 +105,29 @@ unfolding number_of
 number-start = refl
 
 -- a number is at most the length of what stands there
-behind-le : (x : Option Before) (before : Before) → ((d : Before) → x ≡ Some d → Stands d before) → region_behind number_of_innermost x (suc (length before)) ≤ suc (length before)
+behind-le : (x : Option Before) (before : Before) → ((d : Before) → x ≡ Some d → Stands d before)
+    → region_behind number_of_innermost x (suc (length before)) ≤ suc (length before)
 behind-le None before stands = omega arith
 behind-le (Some d) before stands = let h = stands-length d before (stands d refl) in omega arith
 
-context-le : (x : Option Before) (before : Before) → ((d : Before) → x ≡ Some d → Stands d before) → ((d : Before) → Stands d before → number_of_innermost (around d) ≤ length d)
+context-le : (x : Option Before) (before : Before) → ((d : Before) → x ≡ Some d → Stands d before)
+    → ((d : Before) → Stands d before → number_of_innermost (around d) ≤ length d)
     → context_around number_of_innermost x (suc (length before)) ≤ suc (length before)
 context-le None before stands smaller = omega arith
 context-le (Some d) before stands smaller = let s = stands-length d before (stands d refl) in let h = smaller d (stands d refl) in omega arith
 
-beginning-le : (o : Occurrence) (before : Before) → ((d : Before) → Stands d before → number_of_innermost (around d) ≤ length d) → number_of_beginning number_of_innermost o before ≤ suc (length before)
-beginning-le (begins (package_body i)) before smaller = behind-le (package_declared number_of_innermost i.text before) before (λ d e. declared-stands number_of_innermost is_package 0 i.text before d e)
-beginning-le (begins (the_context_of i)) before smaller = context-le (package_declared number_of_innermost i.text before) before (λ d e. declared-stands number_of_innermost is_package 0 i.text before d e) smaller
+beginning-le : (o : Occurrence) (before : Before) → ((d : Before) → Stands d before → number_of_innermost (around d) ≤ length d)
+    → number_of_beginning number_of_innermost o before ≤ suc (length before)
+beginning-le (begins (package_body i)) before smaller =
+    behind-le (package_declared number_of_innermost i.text before) before (λ d e. declared-stands number_of_innermost is_package 0 i.text before d e)
+beginning-le (begins (the_context_of i)) before smaller =
+    context-le (package_declared number_of_innermost i.text before) before (λ d e. declared-stands number_of_innermost is_package 0 i.text before d e) smaller
 beginning-le (begins (task_body i place)) before smaller =
-    behind-le (unit_declared number_of_innermost unit.Task i.text before) before (λ d e. declared-stands number_of_innermost (is_unit_of unit.Task) (region_of_position before) i.text before d e)
+    behind-le (unit_declared number_of_innermost unit.Task i.text before) before
+    (λ d e. declared-stands number_of_innermost (is_unit_of unit.Task) (region_of_position before) i.text before d e)
 beginning-le (begins (protected_body i)) before smaller =
-    behind-le (unit_declared number_of_innermost unit.Protected i.text before) before (λ d e. declared-stands number_of_innermost (is_unit_of unit.Protected) (region_of_position before) i.text before d e)
+    behind-le (unit_declared number_of_innermost unit.Protected i.text before) before
+    (λ d e. declared-stands number_of_innermost (is_unit_of unit.Protected) (region_of_position before) i.text before d e)
 beginning-le (begins _) before smaller = omega arith
 beginning-le _ before smaller = omega arith
 

@@ -28,7 +28,8 @@ position-apart b t p l = go (around b) refl l
 here-apart : (last : ℕ) (b : Before) → Kept last b → (region_of_position b ≡ 0 → ⊥) → region_here (table_at last b) ≡ 0 → ⊥
 here-apart last b k apart e = apart (k.regions.same b [] (stands-here b) (stands-start b) (sym (region-here last b) ∙ e) ∙ number-start)
 
-region-apart : (last : ℕ) (o : Occurrence) (c : Before) → IsText (o ∷ c) → IsPlaced (o ∷ c) → bodies_complete_before (o ∷ c) ≡ true → RegionApart o (table_at last c)
+region-apart : (last : ℕ) (o : Occurrence) (c : Before) → IsText (o ∷ c) → IsPlaced (o ∷ c) → bodies_complete_before (o ∷ c) ≡ true
+    → RegionApart o (table_at last c)
 region-apart last (begins r) c t p complete = here-apart last (begins r ∷ c) (kept last (begins r ∷ c) t complete) (number-positive r c t p.1)
 region-apart last (completes i s) c t p complete =
     here-apart last c (kept last c t.2 (and_parts (completes_if_body (completes i s) c) (bodies_complete_before c) complete).1) (position-apart c t.2 p.1 p.0)
@@ -37,4 +38,5 @@ region-apart last _ c t p complete = tt
 pub unowned-kept : (last : ℕ) (c : Before) → IsText c → IsPlaced c → bodies_complete_before c ≡ true → Unowned (table_at last c).frames
 unowned-kept last [] t p complete = ((λ e q. cc), tt)
 unowned-kept last (o ∷ c) t p complete =
-    unowned-behind o (table_at last c) (region-apart last o c t p complete) (unowned-kept last c t.2 p.1 (and_parts (completes_if_body o c) (bodies_complete_before c) complete).1)
+    unowned-behind o (table_at last c) (region-apart last o c t p complete)
+    (unowned-kept last c t.2 p.1 (and_parts (completes_if_body o c) (bodies_complete_before c) complete).1)

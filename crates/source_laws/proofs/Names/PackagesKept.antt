@@ -1,6 +1,7 @@
 -- Which entities a table has, and that packages are bound in the region of Standard alone, where nothing shows them to the
 -- outside.
-use Rattle.std.proofs.Common.{◌≡◌, ◌⊎◌, inl, inr, ℕ, ◌<◌, ◌+◌, suc, Bool, true, false, cond, ◌||◌, List, [], ◌∷◌, ◌++◌, length, map, Option, Some, None, is_some, option_map, slice_get, eqb, refl, sym, ap, subst, ◌∙◌, arith, eqb-true, length-append}
+use Rattle.std.proofs.Common.{◌≡◌, ◌⊎◌, inl, inr, ℕ, ◌<◌, ◌+◌, suc, Bool, true, false, cond, ◌||◌, List, [], ◌∷◌, ◌++◌, length, map, Option}
+use Rattle.std.proofs.Common.{Some, None, is_some, option_map, slice_get, eqb, refl, sym, ap, subst, ◌∙◌, arith, eqb-true, length-append}
 use borrow.Author.Tests.{eqb-false}
 use Rattle.std.specs.List.{filter}
 use Rattle.std.proofs.lemmas.Option.{slice_get_within}
@@ -22,18 +23,26 @@ use Rattle.ada_regions.specs.declared.table.PackageContext.{PackageContext}
 use Rattle.ada_regions.specs.declared.table.Names.{Names}
 use Rattle.ada_regions.specs.Words.{and_then}
 use Rattle.ada_regions.specs.Names.{Bindings, bound_among, bound_in, noted, kind_at, region_here, region_of_entity, entity_denoted}
-use Rattle.ada_regions.specs.Occurrences.{Occurrence, Declared, Region, the_package, the_main_procedure, the_context, the_context_of, further_context, package_region, package_body, main_body, a_profile, subprogram_body, a_unit, task_body, protected_body, entry_body, an_accept, a_block, a_loop, a_record, begins, ends, private_from_here, hides, heads, declares, declares_unit, completes, is_called, mentions, mentions_simply, mentions_entry, with_unit, use_package}
+use Rattle.ada_regions.specs.Occurrences.{Occurrence, Declared, Region, the_package, the_main_procedure, the_context, the_context_of, further_context}
+use Rattle.ada_regions.specs.Occurrences.{package_region, package_body, main_body, a_profile, subprogram_body, a_unit, task_body, protected_body}
+use Rattle.ada_regions.specs.Occurrences.{entry_body, an_accept, a_block, a_loop, a_record, begins, ends, private_from_here, hides, heads, declares}
+use Rattle.ada_regions.specs.Occurrences.{declares_unit, completes, is_called, mentions, mentions_simply, mentions_entry, with_unit, use_package}
 use Rattle.ada_regions.specs.Visibility.{resolved}
 use Rattle.ada_regions.specs.Declaring.{hidden}
-use Rattle.ada_regions.specs.Completions.{completed_in, headed, is_component, holds_of, is_declared_in_unit, bound_again, seen_among, is_unit, has_body, body_of_unit, first_body, later_body, body_here, body_elsewhere, body_sought, body_begun_at, body_begun, body_apart, seen_again, entity_bound}
-use Rattle.ada_regions.specs.Regions.{is_package as is_package_kind, context_again, package_opened, package_begun, package_body_begun, package_named, with_context, with_scope, next_scope, opened_if, unit_begun, record_begun, library_unit, begun}
+use Rattle.ada_regions.specs.Completions.{completed_in, headed, is_component, holds_of, is_declared_in_unit, bound_again, seen_among}
+use Rattle.ada_regions.specs.Completions.{is_unit, has_body, body_of_unit, first_body, later_body, body_here, body_elsewhere}
+use Rattle.ada_regions.specs.Completions.{body_sought, body_begun_at, body_begun, body_apart, seen_again, entity_bound}
+use Rattle.ada_regions.specs.Regions.{is_package as is_package_kind, context_again, package_opened, package_begun, package_body_begun}
+use Rattle.ada_regions.specs.Regions.{package_named, with_context, with_scope, next_scope, opened_if, unit_begun, record_begun, library_unit, begun}
 use Rattle.ada_regions.specs.Numbered.{behind}
 use Rattle.source_laws.specs.Positions.{Before, Stands}
 use Rattle.source_laws.specs.Declarations.{is_package}
 use Rattle.source_laws.specs.Tables.{table_at}
 use Rattle.source_laws.proofs.Names.PositionLemmas.{false-true}
-use Rattle.source_laws.proofs.Names.Known.{Open, Known, known, innermost, outside, with_bound, with_declared, known-resolved, known-name_resolved, known-entry_mentioned, known-withed, known-used, known-hidden}
-use Rattle.source_laws.proofs.Names.KnownDeclared.{region_behind_it, Declares, with_regions, Enters, known-declared, known-package_declared, known-main_declared, outer, known-completed, known-body_declared}
+use Rattle.source_laws.proofs.Names.Known.{Open, Known, known, innermost, outside, with_bound, with_declared, known-resolved}
+use Rattle.source_laws.proofs.Names.Known.{known-name_resolved, known-entry_mentioned, known-withed, known-used, known-hidden}
+use Rattle.source_laws.proofs.Names.KnownDeclared.{region_behind_it, Declares, with_regions, Enters, known-declared, known-package_declared}
+use Rattle.source_laws.proofs.Names.KnownDeclared.{known-main_declared, outer, known-completed, known-body_declared}
 use Rattle.source_laws.proofs.Names.KnownBegun.{slice_get-last, IsOwn, known-own, known-body_of_unit}
 use Rattle.source_laws.proofs.Names.Texts.{IsText, FitsHere}
 use Rattle.source_laws.proofs.Names.Kept.{known_at}
@@ -79,18 +88,22 @@ unfolding others_of
 sound-others q es None s = tt
 sound-others q es (Some bs) s = s bs refl
 
-sound-bound : (r : ℕ) (b : Binding) (bindings : Bindings) (es : List Entity) → ((q : ℕ) (bs : List Binding) → item_at q bindings ≡ Some bs → AllSound q es bs) → Sound r es b
+sound-bound : (r : ℕ) (b : Binding) (bindings : Bindings) (es : List Entity) → ((q : ℕ) (bs : List Binding) → item_at q bindings ≡ Some bs → AllSound q es bs)
+    → Sound r es b
     → (q : ℕ) (bs : List Binding) → item_at q (bound_in r b bindings) ≡ Some bs → AllSound q es bs
 sound-bound r b bindings es s sound q bs e = go (eqb q r) refl
   where
     go : (t : Bool) → eqb q r ≡ t → AllSound q es bs
     go true h =
         let same : q ≡ r = eqb-true q r h in
-        let list : b ∷ others_of (item_at r bindings) ≡ bs = some-list _ _ (sym (bound-items r b bindings) ∙ (ap (λ k. item_at k (bound_in r b bindings)) (sym same) ∙ e)) in
-        subst (λ z. AllSound q es z) list (subst (λ k. AllSound k es (b ∷ others_of (item_at r bindings))) (sym same) (sound, sound-others r es (item_at r bindings) (s r)))
+        let list : b ∷ others_of (item_at r bindings) ≡ bs =
+        some-list _ _ (sym (bound-items r b bindings) ∙ (ap (λ k. item_at k (bound_in r b bindings)) (sym same) ∙ e)) in
+        subst (λ z. AllSound q es z) list
+        (subst (λ k. AllSound k es (b ∷ others_of (item_at r bindings))) (sym same) (sound, sound-others r es (item_at r bindings) (s r)))
     go false h = s q bs (sym (item-other r b bindings q (eqb-false q r h)) ∙ e)
 
-sound-put : (r : ℕ) (seen : List Binding) (bindings : Bindings) (es : List Entity) → ((q : ℕ) (bs : List Binding) → item_at q bindings ≡ Some bs → AllSound q es bs) → AllSound r es seen
+sound-put : (r : ℕ) (seen : List Binding) (bindings : Bindings) (es : List Entity)
+    → ((q : ℕ) (bs : List Binding) → item_at q bindings ≡ Some bs → AllSound q es bs) → AllSound r es seen
     → (q : ℕ) (bs : List Binding) → item_at q (put r seen bindings) ≡ Some bs → AllSound q es bs
 sound-put r seen bindings es s sound q bs e = go (eqb q r) refl
   where
@@ -125,7 +138,8 @@ seen-all : (n : Names) (q r : ℕ) (bs : List Binding) → AllSound q n.entities
 seen-all n q r [] s = tt
 seen-all n q r (b ∷ bs) s = go (is_declared_in_unit n b) refl (seen-all n q r bs s.1)
   where
-    go : (t : Bool) → is_declared_in_unit n b ≡ t → AllSound r n.entities (map bound_again (filter (is_declared_in_unit n) bs)) → AllSound r n.entities (map bound_again (cond t (b ∷ filter (is_declared_in_unit n) bs) (filter (is_declared_in_unit n) bs)))
+    go : (t : Bool) → is_declared_in_unit n b ≡ t → AllSound r n.entities (map bound_again (filter (is_declared_in_unit n) bs))
+        → AllSound r n.entities (map bound_again (cond t (b ∷ filter (is_declared_in_unit n) bs) (filter (is_declared_in_unit n) bs)))
     go true e more = (seen-one n q r b s.0 e, more)
     go false e more = more
 
@@ -165,7 +179,8 @@ keeps-seen e i scope region n = ((λ s. sound-put n.regions (seen_again n region
 
 keeps-body_of_unit : (e region : ℕ) (i : Identifier) (scope : Option ℕ) (n : Names) → Keeps n (body_of_unit e region i scope n)
 keeps-body_of_unit e region i scope n =
-    let same = known-body_of_unit e region i scope n in keeps-same n (body_of_unit e region i scope n) (ap (λ (k : Known). k.bindings) same) (ap (λ (k : Known). k.entities) same)
+    let same = known-body_of_unit e region i scope n in
+    keeps-same n (body_of_unit e region i scope n) (ap (λ (k : Known). k.bindings) same) (ap (λ (k : Known). k.entities) same)
 
 keeps-first_body : (e : ℕ) (region : Option ℕ) (i : Identifier) (scope : Option ℕ) (n : Names) → Keeps n (first_body e region i scope n)
 unfolding first_body
@@ -189,7 +204,9 @@ unfolding body_here
 keeps-body_here kind e i scope n = go (is_unit kind n e)
   where
     go : (b : Bool) → Keeps n (cond b (first_body e (region_of_entity n e) i scope (noted i.place (denotes.Entity e) n)) (body_apart None i scope [] n))
-    go true = keeps-noted i.place e n (first_body e (region_of_entity n e) i scope (noted i.place (denotes.Entity e) n)) (keeps-first_body e (region_of_entity n e) i scope (noted i.place (denotes.Entity e) n))
+    go true =
+        keeps-noted i.place e n (first_body e (region_of_entity n e) i scope (noted i.place (denotes.Entity e) n))
+        (keeps-first_body e (region_of_entity n e) i scope (noted i.place (denotes.Entity e) n))
     go false = keeps-empty None i scope n
 
 keeps-body_elsewhere : (kind : UnitKind) (e : Option ℕ) (i : Identifier) (scope : Option ℕ) (n : Names) → Keeps n (body_elsewhere kind e i scope n)
@@ -210,7 +227,9 @@ keeps-body_begun kind i scope n = go (entity_bound n (region_here n) i.text)
 
     go : (e : Option ℕ) → Keeps n (body_begun_at kind e i scope n)
     go (Some e) = keeps-body_here kind e i scope n
-    go None = keeps-then n (resolved i n) (body_elsewhere kind (entity_denoted (resolved i n) i.place) i scope (resolved i n)) looked (keeps-body_elsewhere kind (entity_denoted (resolved i n) i.place) i scope (resolved i n))
+    go None =
+        keeps-then n (resolved i n) (body_elsewhere kind (entity_denoted (resolved i n) i.place) i scope (resolved i n)) looked
+        (keeps-body_elsewhere kind (entity_denoted (resolved i n) i.place) i scope (resolved i n))
 
 keeps-package : (e : ℕ) (i : Identifier) (exports : Bool) (region : Option ℕ) (n : Names) → Keeps n (package_opened e i exports region n)
 keeps-package e i exports None n = keeps-empty None i None n
@@ -220,12 +239,15 @@ keeps-package_begun : (e : Option ℕ) (i : Identifier) (n : Names) → Keeps n 
 unfolding package_begun
 keeps-package_begun None i n = keeps-empty None i None n
 keeps-package_begun (Some e) i n =
-    keeps-then n (with_context e n) (package_opened e i true (region_of_entity n e) (with_context e n)) (keeps-same n (with_context e n) refl refl) (keeps-package e i true (region_of_entity n e) (with_context e n))
+    keeps-then n (with_context e n) (package_opened e i true (region_of_entity n e) (with_context e n)) (keeps-same n (with_context e n) refl refl)
+    (keeps-package e i true (region_of_entity n e) (with_context e n))
 
 keeps-package_body : (e : Option ℕ) (i : Identifier) (n : Names) → Keeps n (package_body_begun e i n)
 unfolding package_body_begun
 keeps-package_body None i n = keeps-empty None i None n
-keeps-package_body (Some e) i n = keeps-noted i.place e n (package_opened e i false (region_of_entity n e) (noted i.place (denotes.Entity e) n)) (keeps-package e i false (region_of_entity n e) (noted i.place (denotes.Entity e) n))
+keeps-package_body (Some e) i n =
+    keeps-noted i.place e n (package_opened e i false (region_of_entity n e) (noted i.place (denotes.Entity e) n))
+    (keeps-package e i false (region_of_entity n e) (noted i.place (denotes.Entity e) n))
 
 keeps-context : (c : Option PackageContext) (n : Names) → Keeps n (context_again c n)
 unfolding context_again
@@ -246,7 +268,8 @@ keeps-begun (package_region i) n = keeps-package_begun _ i n
 keeps-begun (package_body i) n = keeps-package_body (package_named n i.text) i n
 keeps-begun (a_unit i) n = keeps-if _ n
 keeps-begun (task_body i place) n =
-    keeps-then n (with_scope place false false n) (body_begun unit.Task i (next_scope n) (with_scope place false false n)) (keeps-same n (with_scope place false false n) refl refl) (keeps-body_begun unit.Task i (next_scope n) (with_scope place false false n))
+    keeps-then n (with_scope place false false n) (body_begun unit.Task i (next_scope n) (with_scope place false false n))
+    (keeps-same n (with_scope place false false n) refl refl) (keeps-body_begun unit.Task i (next_scope n) (with_scope place false false n))
 keeps-begun (protected_body i) n = keeps-body_begun unit.Protected i None n
 keeps-begun (a_record i) n = keeps-if _ n
 keeps-begun the_context n = keeps-own the_context n tt
@@ -281,12 +304,19 @@ sound-hidden i o k s = sound-bound o.region (record { name = i.text; entity = No
 
 follows-hidden : (p : Occurrence) (i : Identifier) (n : Names) → Follows p n (hidden i n)
 unfolding Follows
-follows-hidden p i n = subst (λ (k : Known). (IsSound (known n) → IsSound k) × ((k.entities ≡ n.entities) ⊎ ((x : Entity) × (k.entities ≡ n.entities ++ x ∷ []) × Declares p n.regions x))) (sym (known-hidden i n)) (go _)
+follows-hidden p i n =
+    subst (λ (k : Known).
+    (IsSound (known n) → IsSound k) × ((k.entities ≡ n.entities) ⊎ ((x : Entity) × (k.entities ≡ n.entities ++ x ∷ []) × Declares p n.regions x)))
+    (sym (known-hidden i n))
+    (go _)
   where
     home : Open
     home = innermost (known n).opened
 
-    go : (b : Bool) → (IsSound (known n) → IsSound (cond b (known n) (with_bound home i.text None (known n)))) × (((cond b (known n) (with_bound home i.text None (known n))).entities ≡ n.entities) ⊎ ((x : Entity) × ((cond b (known n) (with_bound home i.text None (known n))).entities ≡ n.entities ++ x ∷ []) × Declares p n.regions x))
+    go : (b : Bool)
+        → (IsSound (known n) → IsSound (cond b (known n) (with_bound home i.text None (known n))))
+        × (((cond b (known n) (with_bound home i.text None (known n))).entities ≡ n.entities)
+        ⊎ ((x : Entity) × ((cond b (known n) (with_bound home i.text None (known n))).entities ≡ n.entities ++ x ∷ []) × Declares p n.regions x))
     go true = ((λ s. s), inl refl)
     go false = ((λ s. sound-hidden i home (known n) s), inl refl)
 
@@ -299,13 +329,15 @@ follows-headed p i n = go (is_some (completed_in n (region_here n) i.text))
     go false = follows-hidden p i n
 
 -- an entity is declared
-sound-declared : (o : Open) (name : List ℕ) (x : Entity) (k : Known) → (is_package_kind x.kind ≡ true → (o.region ≡ 0) × (o.exports ≡ false)) → IsSound k → IsSound (with_declared o name x k)
+sound-declared : (o : Open) (name : List ℕ) (x : Entity) (k : Known) → (is_package_kind x.kind ≡ true → (o.region ≡ 0) × (o.exports ≡ false)) → IsSound k
+    → IsSound (with_declared o name x k)
 sound-declared o name x k alone s =
     sound-bound o.region (record { name = name; entity = Some (length k.entities); exported = o.exports }) k.bindings (k.entities ++ x ∷ [])
     (λ q bs e. sound-more q k.entities (x ∷ []) bs (s q bs e))
     (λ e h. (x, ap (slice_get (k.entities ++ x ∷ [])) (sym (some-same (length k.entities) e h)) ∙ slice_get-last k.entities x, alone))
 
-follows-entered : (o : Occurrence) (home : Open) (i : Identifier) (n m : Names) → Enters o home i n m → (is_package o ≡ true → (home.region ≡ 0) × (home.exports ≡ false)) → Follows o n m
+follows-entered : (o : Occurrence) (home : Open) (i : Identifier) (n m : Names) → Enters o home i n m
+    → (is_package o ≡ true → (home.region ≡ 0) × (home.exports ≡ false)) → Follows o n m
 unfolding Follows
 follows-entered o home i n m d alone = (
   (λ s. subst IsSound (sym d.2) (sound-declared home i.text d.0 (with_regions (region_behind_it o) (known n)) (λ e. alone (sym d.1.packaged ∙ e)) s)),
@@ -317,14 +349,18 @@ unfolding Follows behind
 follows-completed i s n = go (completed_in n (outer n).region i.text) refl
   where
     go : (x : Option ℕ) → completed_in n (outer n).region i.text ≡ x → Follows (completes i s) n (behind (completes i s) n)
-    go (Some e) q = let same = known-completed i s n e q in follows-known (completes i s) n (behind (completes i s) n) (ap (λ (k : Known). k.bindings) same) (ap (λ (k : Known). k.entities) same)
+    go (Some e) q =
+        let same = known-completed i s n e q in
+        follows-known (completes i s) n (behind (completes i s) n) (ap (λ (k : Known). k.bindings) same) (ap (λ (k : Known). k.entities) same)
     go None q =
         let d = known-body_declared i s n q in (
-          (λ sound. subst IsSound (sym d.2) (sound-declared (innermost (outside (known n).opened)) i.text d.0 (known n) (λ e. absurd (false-true (sym d.1.packaged ∙ e))) sound)),
+          (λ sound. subst IsSound (sym d.2)
+              (sound-declared (innermost (outside (known n).opened)) i.text d.0 (known n) (λ e. absurd (false-true (sym d.1.packaged ∙ e))) sound)),
           inr (d.0, ap (λ (k : Known). k.entities) d.2, d.1),
         )
 
-follows-unit : (i : Identifier) (what : Declared) (before : Before) (n : Names) → FitsHere (declares_unit i what) before → Follows (declares_unit i what) n (behind (declares_unit i what) n)
+follows-unit : (i : Identifier) (what : Declared) (before : Before) (n : Names) → FitsHere (declares_unit i what) before
+    → Follows (declares_unit i what) n (behind (declares_unit i what) n)
 unfolding behind
 follows-unit i the_package before n fits = follows-entered (declares_unit i the_package) _ i n _ (known-package_declared i n) (λ e. (refl, refl))
 follows-unit i the_main_procedure before n fits = follows-entered (declares_unit i the_main_procedure) _ i n _ (known-main_declared i n) (λ e. (refl, refl))
@@ -341,12 +377,19 @@ follows (declares i what) before n fits = follows-entered (declares i what) _ i 
 follows (declares_unit i what) before n fits = follows-unit i what before n fits
 follows (completes i s) before n fits = follows-completed i s n
 follows (is_called i) before n fits = follows-known (is_called i) n _ refl refl
-follows (mentions name) before n fits = follows-known (mentions name) n _ (ap (λ (k : Known). k.bindings) (known-name_resolved name n)) (ap (λ (k : Known). k.entities) (known-name_resolved name n))
-follows (mentions_simply i) before n fits = follows-known (mentions_simply i) n _ (ap (λ (k : Known). k.bindings) (known-resolved i n)) (ap (λ (k : Known). k.entities) (known-resolved i n))
-follows (mentions_entry i) before n fits = follows-known (mentions_entry i) n _ (ap (λ (k : Known). k.bindings) (known-entry_mentioned i n)) (ap (λ (k : Known). k.entities) (known-entry_mentioned i n))
+follows (mentions name) before n fits =
+    follows-known (mentions name) n _ (ap (λ (k : Known). k.bindings) (known-name_resolved name n))
+    (ap (λ (k : Known). k.entities) (known-name_resolved name n))
+follows (mentions_simply i) before n fits =
+    follows-known (mentions_simply i) n _ (ap (λ (k : Known). k.bindings) (known-resolved i n)) (ap (λ (k : Known). k.entities) (known-resolved i n))
+follows (mentions_entry i) before n fits =
+    follows-known (mentions_entry i) n _ (ap (λ (k : Known). k.bindings) (known-entry_mentioned i n))
+    (ap (λ (k : Known). k.entities) (known-entry_mentioned i n))
 follows (with_unit name) before n fits =
-    follows-known (with_unit name) n _ (ap (λ (k : Known). k.bindings) (known-withed name (library_unit n name) n)) (ap (λ (k : Known). k.entities) (known-withed name (library_unit n name) n))
-follows (use_package name) before n fits = follows-known (use_package name) n _ (ap (λ (k : Known). k.bindings) (known-used name n)) (ap (λ (k : Known). k.entities) (known-used name n))
+    follows-known (with_unit name) n _ (ap (λ (k : Known). k.bindings) (known-withed name (library_unit n name) n))
+    (ap (λ (k : Known). k.entities) (known-withed name (library_unit n name) n))
+follows (use_package name) before n fits =
+    follows-known (use_package name) n _ (ap (λ (k : Known). k.bindings) (known-used name n)) (ap (λ (k : Known). k.entities) (known-used name n))
 
 -- ---- at each position
 
@@ -356,13 +399,15 @@ sound-kept last [] t = λ q bs e. cc
 sound-kept last (o ∷ c) t = (follows o c (table_at last c) t.1).0 (sound-kept last c t.2)
 
 -- the entities of an earlier position are there
-pub entities-last : (last : ℕ) (b c : Before) → IsText c → Stands b c → (e : ℕ) (x : Entity) → slice_get (known_at last b).entities e ≡ Some x → slice_get (known_at last c).entities e ≡ Some x
+pub entities-last : (last : ℕ) (b c : Before) → IsText c → Stands b c → (e : ℕ) (x : Entity) → slice_get (known_at last b).entities e ≡ Some x
+    → slice_get (known_at last c).entities e ≡ Some x
 unfolding Follows
 entities-last last b [] t s e x there = ap (λ z. slice_get (known_at last z).entities e) (sym s) ∙ there
 entities-last last b (o ∷ c) t (inl q) e x there = ap (λ z. slice_get (known_at last z).entities e) (sym q) ∙ there
 entities-last last b (o ∷ c) t (inr s) e x there = go (follows o c (table_at last c) t.1).1 (entities-last last b c t.2 s e x there)
   where
-    go : Grows o (table_at last c) (table_at last (o ∷ c)) → slice_get (known_at last c).entities e ≡ Some x → slice_get (known_at last (o ∷ c)).entities e ≡ Some x
+    go : Grows o (table_at last c) (table_at last (o ∷ c)) → slice_get (known_at last c).entities e ≡ Some x
+        → slice_get (known_at last (o ∷ c)).entities e ≡ Some x
     go (inl same) h = ap (λ es. slice_get es e) same ∙ h
     go (inr more) h = ap (λ es. slice_get es e) more.1 ∙ slice_get-more (known_at last c).entities (more.0 ∷ []) e x h
 
@@ -385,7 +430,8 @@ declared-at last (o ∷ c) t e x there = go (λ q. declared-at last c t.2 e x q)
     below : (a b : ℕ) → (a ≡ b → ⊥) → a < suc b → a < b
     below a b other lt = omega (arith, other)
 
-    newest : (slice_get (known_at last c).entities e ≡ Some x → DeclaredAt last c e x) → (y : Entity) → Declares o (known_at last c).regions y → slice_get ((known_at last c).entities ++ y ∷ []) e ≡ Some x
+    newest : (slice_get (known_at last c).entities e ≡ Some x → DeclaredAt last c e x) → (y : Entity) → Declares o (known_at last c).regions y
+        → slice_get ((known_at last c).entities ++ y ∷ []) e ≡ Some x
         → (t : Bool) → eqb e (length (known_at last c).entities) ≡ t → DeclaredAt last (o ∷ c) e x
     newest older y d q true h =
         let here : e ≡ length (known_at last c).entities = eqb-true e (length (known_at last c).entities) h in
@@ -394,10 +440,12 @@ declared-at last (o ∷ c) t e x there = go (λ q. declared-at last c t.2 e x q)
     newest older y d q false h =
         let other : e ≡ length (known_at last c).entities → ⊥ = eqb-false e (length (known_at last c).entities) h in
         let within : e < length ((known_at last c).entities ++ y ∷ []) = slice_get_within ((known_at last c).entities ++ y ∷ []) e x q in
-        let long : length ((known_at last c).entities ++ y ∷ []) ≡ length (known_at last c).entities + length (y ∷ []) = length-append (known_at last c).entities (y ∷ []) in
+        let long : length ((known_at last c).entities ++ y ∷ []) ≡ length (known_at last c).entities + length (y ∷ []) =
+        length-append (known_at last c).entities (y ∷ []) in
         let lt : e < length (known_at last c).entities = below e (length (known_at last c).entities) other (omega arith) in
         farther (older (sym (slice_get-left (known_at last c).entities (y ∷ []) e lt) ∙ q))
 
-    go : (slice_get (known_at last c).entities e ≡ Some x → DeclaredAt last c e x) → Grows o (table_at last c) (table_at last (o ∷ c)) → DeclaredAt last (o ∷ c) e x
+    go : (slice_get (known_at last c).entities e ≡ Some x → DeclaredAt last c e x) → Grows o (table_at last c) (table_at last (o ∷ c))
+        → DeclaredAt last (o ∷ c) e x
     go older (inl same) = farther (older (ap (λ zs. slice_get zs e) (sym same) ∙ there))
     go older (inr more) = newest older more.0 more.2 (ap (λ zs. slice_get zs e) (sym more.1) ∙ there) (eqb e (length (known_at last c).entities)) refl

@@ -1,7 +1,8 @@
 -- Where contexts stand in a text, and what stands in them: a context begins outside all regions, and everything else stands in
 -- one; with clauses stand in a context before all but clauses (10.1.2).
 use Rattle.std.proofs.Common.{◌≡◌, Bool, true, false, not, List, [], ◌∷◌, refl}
-use Rattle.ada_regions.specs.Occurrences.{Occurrence, the_package, the_context, the_context_of, further_context, begins, ends, declares_unit, with_unit, use_package}
+use Rattle.ada_regions.specs.Occurrences.{Occurrence, the_package, the_context, the_context_of}
+use Rattle.ada_regions.specs.Occurrences.{further_context, begins, ends, declares_unit, with_unit, use_package}
 use Rattle.source_laws.specs.Positions.{Before, around}
 
 -- the context of a package's declaration begins again

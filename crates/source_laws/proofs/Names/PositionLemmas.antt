@@ -63,7 +63,8 @@ first-length passed before = stands-length (first_or_none (around_behind passed 
 -- ---- what is found by going back
 
 -- tests that agree before a position find the same
-pub nearest-same : (f g : Occurrence → Before → Bool) (before : Before) → ((o : Occurrence) (b : Before) → Stands (o ∷ b) before → f o b ≡ g o b) → nearest f before ≡ nearest g before
+pub nearest-same : (f g : Occurrence → Before → Bool) (before : Before) → ((o : Occurrence) (b : Before) → Stands (o ∷ b) before → f o b ≡ g o b)
+    → nearest f before ≡ nearest g before
 nearest-same f g [] same = refl
 nearest-same f g (o ∷ before) same =
     let here : f o before ≡ g o before = same o before (inl refl) in
@@ -91,7 +92,8 @@ nearest-holds f (o ∷ before) d e = go (f o before) refl e (nearest-holds f bef
     go true t q more = let h : o ∷ before ≡ d = cc in subst (λ z. Holds f z) h t
     go false t q more = more q
 
-pub nearest-none : (f : Occurrence → Before → Bool) (before : Before) → ((o : Occurrence) (b : Before) → Stands (o ∷ b) before → f o b ≡ false) → nearest f before ≡ None
+pub nearest-none : (f : Occurrence → Before → Bool) (before : Before) → ((o : Occurrence) (b : Before) → Stands (o ∷ b) before → f o b ≡ false)
+    → nearest f before ≡ None
 nearest-none f [] none = refl
 nearest-none f (o ∷ before) none =
     let here : f o before ≡ false = none o before (inl refl) in

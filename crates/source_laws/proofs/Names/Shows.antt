@@ -1,6 +1,7 @@
 -- What a use clause makes visible by the table is what it makes visible by position: where its name denotes a package of the source
 -- what that exports, and where it denotes a predefined unit what that declares and its children under a with clause.
-use Rattle.std.proofs.Common.{◌≡◌, ◌⊎◌, inl, inr, ℕ, suc, Bool, true, false, cond, ◌||◌, List, [], ◌∷◌, ◌++◌, length, Option, Some, None, is_some, option_map, slice_get, refl, sym, ap, subst, ◌∙◌, eqb-true, eq-eqb}
+use Rattle.std.proofs.Common.{◌≡◌, ◌⊎◌, inl, inr, ℕ, suc, Bool, true, false, cond, ◌||◌, List, [], ◌∷◌, ◌++◌, length, Option}
+use Rattle.std.proofs.Common.{Some, None, is_some, option_map, slice_get, refl, sym, ap, subst, ◌∙◌, eqb-true, eq-eqb}
 use Rattle.ann_base.specs.declared.places.Place.{Place}
 use Rattle.ada_tree.specs.declared.names.Identifier.{Identifier}
 use Rattle.ada_regions.specs.declared.predefined.Predefined.{Predefined}
@@ -58,7 +59,8 @@ package_first [] = false
 package_first (o ∷ b) = is_package o
 
 -- in a source that ends with what stands before `end`
-module _ (last : ℕ) (end : Before) (t : IsText end) (placed : IsPlaced end) (complete : bodies_complete_before end ≡ true) (apart : all_differ (places_before end) ≡ true) where
+module _ (last : ℕ) (end : Before) (t : IsText end) (placed : IsPlaced end) (complete : bodies_complete_before end ≡ true)
+    (apart : all_differ (places_before end) ≡ true) where
   -- what is denoted means
   abbrev pub told : Denoted → Meaning
   told d = told_meaning (table_at last end) (Some d)
@@ -68,13 +70,16 @@ module _ (last : ℕ) (end : Before) (t : IsText end) (placed : IsPlaced end) (c
 
   -- ---- a place has one name
 
-  no-later : (o : Occurrence) (b : Before) (q : Occurrence) (d : Before) (x : Place) → Stands (o ∷ b) d → Stands (q ∷ d) end → is_among x (places_in o) ≡ true → is_among x (places_in q) ≡ true → ⊥
+  no-later : (o : Occurrence) (b : Before) (q : Occurrence) (d : Before) (x : Place) → Stands (o ∷ b) d → Stands (q ∷ d) end → is_among x (places_in o) ≡ true
+      → is_among x (places_in q) ≡ true → ⊥
   no-later o b q d x s stands first second =
-      let here : is_among x (places_before (o ∷ b)) ≡ true = among-append x (places_in o) (places_before b) ∙ ap (λ z. z || is_among x (places_before b)) first in
+      let here : is_among x (places_before (o ∷ b)) ≡ true =
+      among-append x (places_in o) (places_before b) ∙ ap (λ z. z || is_among x (places_before b)) first in
       let differ : all_differ (places_in q ++ places_before d) ≡ true = differ-at (q ∷ d) end stands apart in
       false-true (sym (differ-apart x (places_in q) (places_before d) differ (place-before x (o ∷ b) d s here)) ∙ second)
 
-  pub places-once : (o : Occurrence) (b : Before) (q : Occurrence) (d : Before) (x : Place) → Stands (o ∷ b) end → Stands (q ∷ d) end → is_among x (places_in o) ≡ true → is_among x (places_in q) ≡ true → o ∷ b ≡ q ∷ d
+  pub places-once : (o : Occurrence) (b : Before) (q : Occurrence) (d : Before) (x : Place) → Stands (o ∷ b) end → Stands (q ∷ d) end
+      → is_among x (places_in o) ≡ true → is_among x (places_in q) ≡ true → o ∷ b ≡ q ∷ d
   places-once o b q d x s u first second = go (stands-either (o ∷ b) (q ∷ d) end s u)
     where
       go : Stands (o ∷ b) (q ∷ d) ⊎ Stands (q ∷ d) (o ∷ b) → o ∷ b ≡ q ∷ d
@@ -85,20 +90,24 @@ module _ (last : ℕ) (end : Before) (t : IsText end) (placed : IsPlaced end) (c
 
   -- ---- entities
 
-  pub entity-told : (c : Before) (y : ℕ) (x : Entity) → Stands c end → slice_get (known_at last c).entities y ≡ Some x → told (denotes.Entity y) ≡ is_declared x.place
+  pub entity-told : (c : Before) (y : ℕ) (x : Entity) → Stands c end → slice_get (known_at last c).entities y ≡ Some x
+      → told (denotes.Entity y) ≡ is_declared x.place
   entity-told c y x s there = ap (λ z. meaning_if_seen (option_map (λ (w : Entity). w.place) z)) (entities-last last c end t s y x there)
 
-  entities-once : (c : Before) (y z : ℕ) (x w : Entity) → Stands c end → slice_get (known_at last c).entities y ≡ Some x → slice_get (known_at last c).entities z ≡ Some w → x.place ≡ w.place → y ≡ z
+  entities-once : (c : Before) (y z : ℕ) (x w : Entity) → Stands c end → slice_get (known_at last c).entities y ≡ Some x
+      → slice_get (known_at last c).entities z ≡ Some w → x.place ≡ w.place → y ≡ z
   entities-once c y z x w s there also same =
       let d = declared-at last c (text-stands c end s t) y x there in
       let f = declared-at last c (text-stands c end s t) z w also in
-      let one = places-once d.by d.before f.by f.before x.place (stands-trans (d.by ∷ d.before) c end d.stands s) (stands-trans (f.by ∷ f.before) c end f.stands s)
+      let one =
+      places-once d.by d.before f.by f.before x.place (stands-trans (d.by ∷ d.before) c end d.stands s) (stands-trans (f.by ∷ f.before) c end f.stands s)
       (defining-among d.by x.place d.declared.place) (defining-among f.by x.place (f.declared.place ∙ ap Some (sym same))) in
       let rest : d.before ≡ f.before = cc in
       d.number ∙ (ap (λ b. length (known_at last b).entities) rest ∙ sym f.number)
 
   -- what clauses make visible at a position c, and means one thing, is one
-  pub alike : (c : Before) → Stands c end → (name : List ℕ) (u v d e : Denoted) → visible_in (table_at last c) name u ≡ Some d → visible_in (table_at last c) name v ≡ Some e → told d ≡ told e → same_denoted d e ≡ true
+  pub alike : (c : Before) → Stands c end → (name : List ℕ) (u v d e : Denoted) → visible_in (table_at last c) name u ≡ Some d
+      → visible_in (table_at last c) name v ≡ Some e → told d ≡ told e → same_denoted d e ≡ true
   unfolding same_denoted
   alike c s name u v (denotes.Entity a) (denotes.Entity b) p q same =
       let x = visible-there (table_at last c) name u a (sound-kept last c (text-stands c end s t)) p in
@@ -117,14 +126,16 @@ module _ (last : ℕ) (end : Before) (t : IsText end) (placed : IsPlaced end) (c
       let y = visible-there (table_at last c) name v b (sound-kept last c (text-stands c end s t)) q in
       let h : is_unit a ≡ is_declared y.0.place = same ∙ entity-told c b y.0 s y.1 in
       cc
-  alike c s name u v (denotes.Unit a) (denotes.Unit b) p q same = let h : a ≡ b = cc in subst (λ z. same_denoted (denotes.Unit a) (denotes.Unit z) ≡ true) h (same_unit-itself a)
+  alike c s name u v (denotes.Unit a) (denotes.Unit b) p q same =
+      let h : a ≡ b = cc in subst (λ z. same_denoted (denotes.Unit a) (denotes.Unit z) ≡ true) h (same_unit-itself a)
   alike c s name u v (denotes.Unit a) (denotes.Item b j) p q same = cc
   alike c s name u v (denotes.Item a i) (denotes.Entity b) p q same =
       let y = visible-there (table_at last c) name v b (sound-kept last c (text-stands c end s t)) q in
       let h : is_item a ≡ is_declared y.0.place = same ∙ entity-told c b y.0 s y.1 in
       cc
   alike c s name u v (denotes.Item a i) (denotes.Unit b) p q same = cc
-  alike c s name u v (denotes.Item a i) (denotes.Item b j) p q same = let h : a ≡ b = cc in subst (λ z. same_denoted (denotes.Item a i) (denotes.Item z j) ≡ true) h (same_unit-itself a)
+  alike c s name u v (denotes.Item a i) (denotes.Item b j) p q same =
+      let h : a ≡ b = cc in subst (λ z. same_denoted (denotes.Item a i) (denotes.Item z j) ≡ true) h (same_unit-itself a)
 
   pub agree : (d e : Denoted) → same_denoted d e ≡ true → told d ≡ told e
   unfolding same_denoted
@@ -145,11 +156,13 @@ module _ (last : ℕ) (end : Before) (t : IsText end) (placed : IsPlaced end) (c
   Shows c name m x = visible_by last name c m ≡ option_map told (and_then x (visible_in (table_at last c) name))
 
   -- a predefined unit
-  pub unit-shows : (c : Before) → Stands c end → looks (around c) ≡ true → (name : List ℕ) (u : PredefinedUnit) → Shows c name (is_unit u) (Some (denotes.Unit u))
+  pub unit-shows : (c : Before) → Stands c end → looks (around c) ≡ true → (name : List ℕ) (u : PredefinedUnit)
+      → Shows c name (is_unit u) (Some (denotes.Unit u))
   unfolding visible_in item_of
   unit-shows c s l name u =
       let n : Names = table_at last c in
-      ap (λ z. option_or z (and_then (child_unit u name) (child_if_withed c))) (items ∙ ap (λ k. option_map told (item_of k u name)) (sym (kept-here c s).priority))
+      ap (λ z. option_or z (and_then (child_unit u name) (child_if_withed c)))
+      (items ∙ ap (λ k. option_map told (item_of k u name)) (sym (kept-here c s).priority))
       ∙ (ap (option_or (option_map told (item_of n.last_priority u name))) (children (child_unit u name))
       ∙ sym (else-mapped told (item_of n.last_priority u name) (and_then (child_unit u name) (some_if_withed n.withs))))
     where
@@ -172,7 +185,8 @@ module _ (last : ℕ) (end : Before) (t : IsText end) (placed : IsPlaced end) (c
 
   -- ---- an entity
 
-  nearest-package : (place : Place) (c : Before) (i : Identifier) (b : Before) → Stands (declares_unit i the_package ∷ b) c → Stands c end → i.place ≡ place → nearest (declares_package place) c ≡ Some (declares_unit i the_package ∷ b)
+  nearest-package : (place : Place) (c : Before) (i : Identifier) (b : Before) → Stands (declares_unit i the_package ∷ b) c → Stands c end → i.place ≡ place
+      → nearest (declares_package place) c ≡ Some (declares_unit i the_package ∷ b)
   nearest-package place c i b s up e = go (nearest (declares_package place) c) refl
     where
       holds : declares_package place (declares_unit i the_package) b ≡ true
@@ -182,10 +196,13 @@ module _ (last : ℕ) (end : Before) (t : IsText end) (placed : IsPlaced end) (c
       go None q = absurd (false-true (ap is_some (sym q) ∙ nearest-some (declares_package place) c (declares_unit i the_package) b s holds))
       go (Some []) q = absurd (nearest-holds (declares_package place) c [] q)
       go (Some (o ∷ d)) q =
-          q ∙ ap Some (places-once o d (declares_unit i the_package) b place (stands-trans (o ∷ d) c end (nearest-stands (declares_package place) c (o ∷ d) q) up) (stands-trans (declares_unit i the_package ∷ b) c end s up)
+          q
+          ∙ ap Some (places-once o d (declares_unit i the_package) b place
+          (stands-trans (o ∷ d) c end (nearest-stands (declares_package place) c (o ∷ d) q) up) (stands-trans (declares_unit i the_package ∷ b) c end s up)
           (package-among place o d (nearest-holds (declares_package place) c (o ∷ d) q)).0 (package-among place (declares_unit i the_package) b holds).0)
 
-  nearest-none-package : (place : Place) (c : Before) (o : Occurrence) (b : Before) → Stands (o ∷ b) end → Stands c end → defining_place o ≡ Some place → is_package o ≡ false → nearest (declares_package place) c ≡ None
+  nearest-none-package : (place : Place) (c : Before) (o : Occurrence) (b : Before) → Stands (o ∷ b) end → Stands c end → defining_place o ≡ Some place
+      → is_package o ≡ false → nearest (declares_package place) c ≡ None
   nearest-none-package place c o b s up defines none = go (nearest (declares_package place) c) refl
     where
       go : (x : Option Before) → nearest (declares_package place) c ≡ x → nearest (declares_package place) c ≡ None
@@ -193,22 +210,29 @@ module _ (last : ℕ) (end : Before) (t : IsText end) (placed : IsPlaced end) (c
       go (Some []) q = absurd (nearest-holds (declares_package place) c [] q)
       go (Some (p ∷ d)) q =
           let found = package-among place p d (nearest-holds (declares_package place) c (p ∷ d) q) in
-          let same = places-once o b p d place s (stands-trans (p ∷ d) c end (nearest-stands (declares_package place) c (p ∷ d) q) up) (defining-among o place defines) found.0 in
+          let same =
+          places-once o b p d place s (stands-trans (p ∷ d) c end (nearest-stands (declares_package place) c (p ∷ d) q) up)
+          (defining-among o place defines) found.0 in
           absurd (false-true (sym none ∙ (ap package_first same ∙ found.1)))
 
   -- where a package declares it
-  package-shows : (c b : Before) → Stands b c → Stands c end → (name : List ℕ) (y : ℕ) (x : Entity) → slice_get (known_at last b).entities y ≡ Some x → (d : DeclaredAt last b y x) → is_package d.by ≡ true
+  package-shows : (c b : Before) → Stands b c → Stands c end → (name : List ℕ) (y : ℕ) (x : Entity) → slice_get (known_at last b).entities y ≡ Some x
+      → (d : DeclaredAt last b y x) → is_package d.by ≡ true
       → visible_by last name c (is_declared x.place) ≡ option_map told (visible_in (table_at last c) name (denotes.Entity y))
   package-shows c b s up name y x there d is =
-      package-shape (λ o. Stands (o ∷ d.before) b → defining_place o ≡ Some x.place → x.region ≡ region_given (region_behind_it o) (known_at last d.before).regions
+      package-shape
+      (λ o. Stands (o ∷ d.before) b → defining_place o ≡ Some x.place → x.region ≡ region_given (region_behind_it o) (known_at last d.before).regions
       → visible_by last name c (is_declared x.place) ≡ option_map told (visible_in (table_at last c) name (denotes.Entity y)))
       (λ i stands defines region. (
       let here : Stands (declares_unit i the_package ∷ d.before) c = stands-trans (declares_unit i the_package ∷ d.before) b c stands s in
       let place : i.place ≡ x.place = cc in
       let home : region_of_entity (table_at last c) (length (known_at last d.before).entities) ≡ Some (known_at last d.before).regions =
-      ap (region_of_entity (table_at last c)) (sym d.number) ∙ (ap (λ z. and_then z (λ (w : Entity). w.region)) (entities-last last b c (text-stands c end up t) s y x there) ∙ region) in
-      ap (λ z. and_then (option_map (λ (w : Before). suc (length w)) z) (λ h. exported_by_package h name c)) (nearest-package x.place c i d.before here up place)
-      ∙ (sym (package-visible last c end i d.before name (text-stands c end up t) (complete-stands c end up complete) up (kept-here end (stands-here end)) here home)
+      ap (region_of_entity (table_at last c)) (sym d.number)
+      ∙ (ap (λ z. and_then z (λ (w : Entity). w.region)) (entities-last last b c (text-stands c end up t) s y x there) ∙ region) in
+      ap (λ z. and_then (option_map (λ (w : Before). suc (length w)) z) (λ h. exported_by_package h name c))
+      (nearest-package x.place c i d.before here up place)
+      ∙ (sym (package-visible last c end i d.before name (text-stands c end up t) (complete-stands c end up complete) up
+      (kept-here end (stands-here end)) here home)
       ∙ ap (λ z. option_map told (visible_in (table_at last c) name (denotes.Entity z))) (sym d.number))))
       d.by is d.stands d.declared.place d.declared.region
 

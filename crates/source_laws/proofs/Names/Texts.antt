@@ -3,7 +3,9 @@
 use Rattle.std.proofs.Common.{◌≡◌, true, List, [], ◌∷◌, ◌++◌, Option, Some, None, refl, sym, ap, subst, ◌∙◌}
 use Rattle.std.specs.List.{flat_map}
 use Rattle.ada_tree.specs.declared.names.OneOrMore.{OneOrMore}
-use Rattle.ada_regions.specs.Occurrences.{Occurrence, Occurrences, Declared, Region, the_package, the_main_procedure, a_derived_type, a_task, a_protected, the_context, the_context_of, further_context, package_region, a_unit, a_record, begins, ends, declares, declares_unit, with_unit, in_all, if_there, one, within_region}
+use Rattle.ada_regions.specs.Occurrences.{Occurrence, Occurrences, Declared, Region, the_package, the_main_procedure, a_derived_type}
+use Rattle.ada_regions.specs.Occurrences.{a_task, a_protected, the_context, the_context_of, further_context, package_region, a_unit}
+use Rattle.ada_regions.specs.Occurrences.{a_record, begins, ends, declares, declares_unit, with_unit, in_all, if_there, one, within_region}
 use Rattle.source_laws.specs.Positions.{Before, read_on, around, all_but_innermost}
 use Rattle.source_laws.proofs.Names.PositionLemmas.{behind-one_more}
 use Rattle.source_laws.proofs.Names.KnownDeclared.{region_behind_it, IsInner}
@@ -79,7 +81,9 @@ inside-none = record { whole = whole-none; placed = λ before p l. p }
 pub inside-append : (xs ys : Occurrences) → Inside xs → Inside ys → Inside (xs ++ ys)
 inside-append xs ys a b = record {
   whole = whole-append xs ys a.whole b.whole;
-  placed = λ before p l. subst IsPlaced (sym (read_on-append xs ys before)) (b.placed (read_on xs before) (a.placed before p l) (ap looks (a.whole.closed before) ∙ l));
+  placed =
+      λ before p l.
+      subst IsPlaced (sym (read_on-append xs ys before)) (b.placed (read_on xs before) (a.placed before p l) (ap looks (a.whole.closed before) ∙ l));
 }
 
 -- ---- single occurrences
@@ -166,7 +170,8 @@ ended-text r os before whole t =
 ended-settled : (r : Region) (os : Occurrences) (before : Before) → begins_next (read_on (os ++ one ends) (begins r ∷ before)) ≡ None
 ended-settled r os before = ap begins_next (read_on-append os (one ends) (begins r ∷ before))
 
-pub ended-placed : (r : Region) (os : Occurrences) (before : Before) → IsPlaced (read_on os (begins r ∷ before)) → IsPlaced (read_on (os ++ one ends) (begins r ∷ before))
+pub ended-placed : (r : Region) (os : Occurrences) (before : Before) → IsPlaced (read_on os (begins r ∷ before))
+    → IsPlaced (read_on (os ++ one ends) (begins r ∷ before))
 ended-placed r os before p = subst IsPlaced (sym (read_on-append os (one ends) (begins r ∷ before))) (tt, p)
 
 pub whole-region : (r : Region) (os : Occurrences) → BeginsAlone r → Whole os → Whole (within_region r os)
@@ -177,11 +182,16 @@ whole-region r os alone whole = record {
 }
 
 -- a declaration with the region that begins behind it
-pub whole-declared_region : (o : Occurrence) (r : Region) (os : Occurrences) → region_behind_it o ≡ Some r → FitsBehind None o → ((before : Before) → FitsHere o before)
+pub whole-declared_region : (o : Occurrence) (r : Region) (os : Occurrences) → region_behind_it o ≡ Some r → FitsBehind None o
+    → ((before : Before) → FitsHere o before)
     → ((before : Before) → around (o ∷ before) ≡ around before) → Whole os → Whole (o ∷ within_region r os)
 whole-declared_region o r os next behind here stays whole = record {
   text = λ before t settled.
-      ended-text r os (o ∷ before) whole (subst (λ x. FitsBehind x (begins r)) (sym next) refl, tt, (subst (λ x. FitsBehind x o) (sym settled) behind, here before, t));
+      ended-text r os (o ∷ before) whole (
+        subst (λ x. FitsBehind x (begins r)) (sym next) refl,
+        tt,
+        (subst (λ x. FitsBehind x o) (sym settled) behind, here before, t),
+      );
   settled = λ before settled. ended-settled r os (o ∷ before);
   closed = λ before. region-closed r os (o ∷ before) whole ∙ stays before;
 }
@@ -227,20 +237,26 @@ declaration-placed (declares i what) is = (tt, λ before l. l)
 declaration-placed _ is = absurd is
 
 region-looks : (o : Occurrence) (r : Region) → IsDeclaration o → region_behind_it o ≡ Some r → Looks r
-region-looks (declares i (a_derived_type parent)) r is e = subst Looks (let h : a_record i ≡ r = cc in h) (record { here = λ before l. l; within = λ before. refl })
-region-looks (declares i (a_task is_type aspects)) r is e = subst Looks (let h : a_unit i ≡ r = cc in h) (record { here = λ before l. l; within = λ before. refl })
-region-looks (declares i (a_protected is_type aspects)) r is e = subst Looks (let h : a_unit i ≡ r = cc in h) (record { here = λ before l. l; within = λ before. refl })
+region-looks (declares i (a_derived_type parent)) r is e =
+    subst Looks (let h : a_record i ≡ r = cc in h) (record { here = λ before l. l; within = λ before. refl })
+region-looks (declares i (a_task is_type aspects)) r is e =
+    subst Looks (let h : a_unit i ≡ r = cc in h) (record { here = λ before l. l; within = λ before. refl })
+region-looks (declares i (a_protected is_type aspects)) r is e =
+    subst Looks (let h : a_unit i ≡ r = cc in h) (record { here = λ before l. l; within = λ before. refl })
 region-looks (declares i _) r is e = cc
 region-looks _ r is e = absurd is
 
-pub inside-declared_region : (o : Occurrence) (r : Region) (os : Occurrences) → region_behind_it o ≡ Some r → IsDeclaration o → ((before : Before) → FitsHere o before)
+pub inside-declared_region : (o : Occurrence) (r : Region) (os : Occurrences) → region_behind_it o ≡ Some r → IsDeclaration o
+    → ((before : Before) → FitsHere o before)
     → ((before : Before) → around (o ∷ before) ≡ around before) → Inside os → Inside (o ∷ within_region r os)
 inside-declared_region o r os next is here stays inside =
     let d = declaration-placed o is in
     let b = region-looks o r is next in
     record {
       whole = whole-declared_region o r os next d.0 here stays inside.whole;
-      placed = λ before p l. ended-placed r os (o ∷ before) (inside.placed (begins r ∷ o ∷ before) (b.here (o ∷ before) (ap looks (stays before) ∙ l), (d.1 before l, p)) (b.within (o ∷ before)));
+      placed =
+          λ before p l. ended-placed r os (o ∷ before)
+          (inside.placed (begins r ∷ o ∷ before) (b.here (o ∷ before) (ap looks (stays before) ∙ l), (d.1 before l, p)) (b.within (o ∷ before)));
     }
 
 -- ---- lists of parts

@@ -12,12 +12,16 @@ use Rattle.ada_tree.specs.declared.units.PackageDeclaration.{PackageDeclaration}
 use Rattle.ada_tree.specs.declared.units.PackageBody.{PackageBody}
 use Rattle.ada_tree.specs.declared.units.MainProcedure.{MainProcedure}
 use Rattle.ada_tree.specs.declared.units.LibraryPackage.{LibraryPackage}
-use Rattle.ada_regions.specs.Occurrences.{Occurrences, Region, begins, if_there, in_body, within_region, the_package, the_main_procedure, the_context, the_context_of, further_context, package_region, package_body, main_body, private_from_here, declares_unit, one}
+use Rattle.ada_regions.specs.Occurrences.{Occurrences, Region, begins, if_there, in_body, within_region, the_package, the_main_procedure, the_context}
+use Rattle.ada_regions.specs.Occurrences.{the_context_of, further_context, package_region, package_body, main_body, private_from_here, declares_unit, one}
 use Rattle.ada_regions.specs.NamesInDeclarations.{names_in_declaration, names_in_aspects}
-use Rattle.ada_regions.specs.NamesInUnits.{clause_with, names_in_clause, names_in_context, names_in_part, names_in_private_part, names_in_package_declaration, names_in_package_statements, names_in_package_body, names_in_package, names_in_library_package, names_in_main, names_in_unit, names_in_sequence}
+use Rattle.ada_regions.specs.NamesInUnits.{clause_with, names_in_clause, names_in_context, names_in_part, names_in_private_part}
+use Rattle.ada_regions.specs.NamesInUnits.{names_in_package_declaration, names_in_package_statements, names_in_package_body}
+use Rattle.ada_regions.specs.NamesInUnits.{names_in_package, names_in_library_package, names_in_main, names_in_unit, names_in_sequence}
 use Rattle.source_laws.specs.Positions.{Before, around, read_on, end_of}
 use Rattle.source_laws.proofs.Names.Placing.{looks, clauses_here, IsPlaced, clauses-look}
-use Rattle.source_laws.proofs.Names.Texts.{IsText, Whole, read_on-append, whole-append, whole-flat, Settles, whole-one, ended-placed, whole-region, whole-declared_region, Inside, inside-append, inside-cons, inside-region, inside-flat, inside-if_there}
+use Rattle.source_laws.proofs.Names.Texts.{IsText, Whole, read_on-append, whole-append, whole-flat, Settles, whole-one, ended-placed, whole-region}
+use Rattle.source_laws.proofs.Names.Texts.{whole-declared_region, Inside, inside-append, inside-cons, inside-region, inside-flat, inside-if_there}
 use Rattle.source_laws.proofs.Names.Insides.{inside-aspects}
 use Rattle.source_laws.proofs.Names.Sequences.{inside-body, inside-sequence, inside-whole_declaration}
 
@@ -31,7 +35,8 @@ whole-clauses : (is_use : Bool) (names : List Name) → Whole (flat_map (λ name
 whole-clauses is_use names = whole-flat (λ name. one (clause_with is_use name)) (λ name. whole-one _ (clause-settles is_use name)) names
 
 whole-clause : (c : ContextClause) → Whole (names_in_clause c)
-whole-clause c = whole-append (one (clause_with c.is_use c.names.first)) _ (whole-one _ (clause-settles c.is_use c.names.first)) (whole-clauses c.is_use c.names.others)
+whole-clause c =
+    whole-append (one (clause_with c.is_use c.names.first)) _ (whole-one _ (clause-settles c.is_use c.names.first)) (whole-clauses c.is_use c.names.others)
 
 whole-context : (clauses : List ContextClause) → Whole (names_in_context clauses)
 whole-context clauses = whole-flat names_in_clause whole-clause clauses
@@ -83,7 +88,9 @@ abbrev body_names : PackageBody → Occurrences
 body_names p = within_region (package_body p.name) (names_in_part p.declarations ++ if_there names_in_package_statements p.sequence)
 
 abbrev main_names : MainProcedure → Occurrences
-main_names m = names_in_aspects m.aspects ++ (declares_unit m.name the_main_procedure ∷ within_region (main_body m.name m.place) (in_body (names_in_sequence m.body.sequence)))
+main_names m =
+    names_in_aspects m.aspects
+    ++ (declares_unit m.name the_main_procedure ∷ within_region (main_body m.name m.place) (in_body (names_in_sequence m.body.sequence)))
 
 inside-visible : (p : PackageDeclaration) → Inside (visible_names p)
 inside-visible p = inside-append _ _ (inside-part p.declarations) (inside-if_there names_in_private_part inside-private_part p.private)
@@ -97,7 +104,8 @@ inside-body_region p = inside-region (package_body p.name) _ tt (inside-complete
 inside-main : (m : MainProcedure) → Inside (main_names m)
 inside-main m =
     inside-append _ _ (inside-aspects m.aspects)
-    (inside-cons (declares_unit m.name the_main_procedure) _ tt (inside-region (main_body m.name m.place) _ tt (inside-body (names_in_sequence m.body.sequence) (inside-sequence m.body.sequence))))
+    (inside-cons (declares_unit m.name the_main_procedure) _ tt
+    (inside-region (main_body m.name m.place) _ tt (inside-body (names_in_sequence m.body.sequence) (inside-sequence m.body.sequence))))
 
 -- ---- library units
 
@@ -126,40 +134,54 @@ unit-text u = (whole-unit u).text [] tt refl
 -- ---- library units stand outside all regions
 
 -- a context with what stands behind its clauses
-context-placed : (r : Region) (context : List ContextClause) (os : Occurrences) (before : Before) → clauses_here (begins r ∷ before) ≡ true → IsPlaced (begins r ∷ before)
-    → ((b : Before) → IsPlaced b → around b ≡ (begins r ∷ before) ∷ around before → IsPlaced (read_on os b)) → IsPlaced (read_on (names_in_context context ++ os) (begins r ∷ before))
+context-placed : (r : Region) (context : List ContextClause) (os : Occurrences) (before : Before) → clauses_here (begins r ∷ before) ≡ true
+    → IsPlaced (begins r ∷ before)
+    → ((b : Before) → IsPlaced b → around b ≡ (begins r ∷ before) ∷ around before → IsPlaced (read_on os b))
+    → IsPlaced (read_on (names_in_context context ++ os) (begins r ∷ before))
 context-placed r context os before here p more =
     let clauses = (clauses-context context).placed (begins r ∷ before) p here in
     subst IsPlaced (sym (read_on-append (names_in_context context) os (begins r ∷ before)))
     (more (read_on (names_in_context context) (begins r ∷ before)) clauses.0 ((whole-context context).closed (begins r ∷ before)))
 
-declaration-placed : (context : List ContextClause) (p : PackageDeclaration) (before : Before) → IsPlaced before → around before ≡ [] → IsPlaced (read_on (names_in_package_declaration context p) before)
+declaration-placed : (context : List ContextClause) (p : PackageDeclaration) (before : Before) → IsPlaced before → around before ≡ []
+    → IsPlaced (read_on (names_in_package_declaration context p) before)
 declaration-placed context p before placed top =
-    ended-placed the_context (names_in_context context ++ declared_names p) before (context-placed the_context context (declared_names p) before refl (top, placed) (λ b q around-b.
+    ended-placed the_context (names_in_context context ++ declared_names p) before
+    (context-placed the_context context (declared_names p) before refl (top, placed) (λ b q around-b.
     ended-placed (package_region p.name) (visible_names p) (declares_unit p.name the_package ∷ b)
-    ((inside-visible p).placed (begins (package_region p.name) ∷ declares_unit p.name the_package ∷ b) (ap looks around-b, ((before, around-b ∙ ap (λ bs. (begins the_context ∷ before) ∷ bs) top), q)) refl)))
+    ((inside-visible p).placed (begins (package_region p.name) ∷ declares_unit p.name the_package ∷ b)
+    (ap looks around-b, ((before, around-b ∙ ap (λ bs. (begins the_context ∷ before) ∷ bs) top), q)) refl)))
 
-body-placed : (context : List ContextClause) (p : PackageBody) (before : Before) → IsPlaced before → around before ≡ [] → IsPlaced (read_on (names_in_package_body context p) before)
+body-placed : (context : List ContextClause) (p : PackageBody) (before : Before) → IsPlaced before → around before ≡ []
+    → IsPlaced (read_on (names_in_package_body context p) before)
 body-placed context p before placed top =
-    ended-placed (the_context_of p.name) (within_region further_context (names_in_context context ++ body_names p)) before (ended-placed further_context (names_in_context context ++ body_names p) (begins (the_context_of p.name) ∷ before)
-    (context-placed further_context context (body_names p) (begins (the_context_of p.name) ∷ before) refl (refl, (top, placed)) (λ b q around-b. (inside-body_region p).placed b q (ap looks around-b))))
+    ended-placed (the_context_of p.name) (within_region further_context (names_in_context context ++ body_names p)) before
+    (ended-placed further_context (names_in_context context ++ body_names p) (begins (the_context_of p.name) ∷ before)
+    (context-placed further_context context (body_names p) (begins (the_context_of p.name) ∷ before) refl (refl, (top, placed))
+    (λ b q around-b. (inside-body_region p).placed b q (ap looks around-b))))
 
-package-placed : (context : List ContextClause) (p : Package) (before : Before) → IsPlaced before → around before ≡ [] → IsPlaced (read_on (names_in_package context p) before)
+package-placed : (context : List ContextClause) (p : Package) (before : Before) → IsPlaced before → around before ≡ []
+    → IsPlaced (read_on (names_in_package context p) before)
 package-placed context (packages.Declaration p) = declaration-placed context p
 package-placed context (packages.Body p) = body-placed context p
 
-packages-placed : (ls : List LibraryPackage) (before : Before) → IsPlaced before → around before ≡ [] → IsPlaced (read_on (flat_map names_in_library_package ls) before)
+packages-placed : (ls : List LibraryPackage) (before : Before) → IsPlaced before → around before ≡ []
+    → IsPlaced (read_on (flat_map names_in_library_package ls) before)
 packages-placed [] before placed top = placed
 packages-placed (l ∷ ls) before placed top =
     subst IsPlaced (sym (read_on-append (names_in_package l.context l.package) (flat_map names_in_library_package ls) before))
-    (packages-placed ls (read_on (names_in_package l.context l.package) before) (package-placed l.context l.package before placed top) ((whole-package l.context l.package).closed before ∙ top))
+    (packages-placed ls (read_on (names_in_package l.context l.package) before) (package-placed l.context l.package before placed top)
+    ((whole-package l.context l.package).closed before ∙ top))
 
-main-placed : (context : List ContextClause) (m : MainProcedure) (before : Before) → IsPlaced before → around before ≡ [] → IsPlaced (read_on (names_in_main context m) before)
+main-placed : (context : List ContextClause) (m : MainProcedure) (before : Before) → IsPlaced before → around before ≡ []
+    → IsPlaced (read_on (names_in_main context m) before)
 main-placed context m before placed top =
-    ended-placed the_context (names_in_context context ++ main_names m) before (context-placed the_context context (main_names m) before refl (top, placed) (λ b q around-b. (inside-main m).placed b q (ap looks around-b)))
+    ended-placed the_context (names_in_context context ++ main_names m) before
+    (context-placed the_context context (main_names m) before refl (top, placed) (λ b q around-b. (inside-main m).placed b q (ap looks around-b)))
 
 pub unit-placed : (u : Tree) → IsPlaced (end_of u)
 unit-placed u =
     let packages = flat_map names_in_library_package u.packages in
     subst IsPlaced (sym (read_on-append packages (names_in_main u.context u.main) []))
-    (main-placed u.context u.main (read_on packages []) (packages-placed u.packages [] tt refl) ((whole-flat names_in_library_package (λ l. whole-package l.context l.package) u.packages).closed []))
+    (main-placed u.context u.main (read_on packages []) (packages-placed u.packages [] tt refl)
+    ((whole-flat names_in_library_package (λ l. whole-package l.context l.package) u.packages).closed []))

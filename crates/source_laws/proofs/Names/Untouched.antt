@@ -12,9 +12,12 @@ use Rattle.ada_regions.specs.declared.table.Frame.{Frame}
 use Rattle.ada_regions.specs.declared.table.Names.{Names}
 use Rattle.ada_regions.specs.Names.{noted, region_of_entity, region_here, entity_denoted}
 use Rattle.ada_regions.specs.Visibility.{resolved}
-use Rattle.ada_regions.specs.Occurrences.{Region, the_context, the_context_of, further_context, package_region, package_body, main_body, a_profile, subprogram_body, a_unit, task_body, protected_body, entry_body, an_accept, a_block, a_loop, a_record}
-use Rattle.ada_regions.specs.Completions.{is_unit, has_body, body_of_unit, first_body, later_body, body_here, body_elsewhere, body_sought, body_begun_at, body_begun, body_apart, seen_again, entity_bound}
-use Rattle.ada_regions.specs.Regions.{context_again, package_opened, package_begun, package_body_begun, package_named, with_context, with_scope, next_scope, opened_if, unit_begun, record_begun, begun}
+use Rattle.ada_regions.specs.Occurrences.{Region, the_context, the_context_of, further_context, package_region, package_body, main_body, a_profile}
+use Rattle.ada_regions.specs.Occurrences.{subprogram_body, a_unit, task_body, protected_body, entry_body, an_accept, a_block, a_loop, a_record}
+use Rattle.ada_regions.specs.Completions.{is_unit, has_body, body_of_unit, first_body, later_body, body_here, body_elsewhere}
+use Rattle.ada_regions.specs.Completions.{body_sought, body_begun_at, body_begun, body_apart, seen_again, entity_bound}
+use Rattle.ada_regions.specs.Regions.{context_again, package_opened, package_begun, package_body_begun, package_named}
+use Rattle.ada_regions.specs.Regions.{with_context, with_scope, next_scope, opened_if, unit_begun, record_begun, begun}
 use Rattle.source_laws.proofs.Names.Known.{Known, known, known-resolved}
 use Rattle.source_laws.proofs.Names.KnownBegun.{IsOwn, known-own, known-body_of_unit}
 
@@ -70,7 +73,9 @@ module _ (q : ℕ) where
 
       go : (e : Option ℕ) → Binds n (body_begun_at kind e i scope n)
       go (Some e) = here-binds kind e i scope n other
-      go None = elsewhere-binds kind (entity_denoted (resolved i n) i.place) i scope (resolved i n) resolved-other ∙ ap (λ (k : Known). item_at q k.bindings) (known-resolved i n)
+      go None =
+          elsewhere-binds kind (entity_denoted (resolved i n) i.place) i scope (resolved i n) resolved-other
+          ∙ ap (λ (k : Known). item_at q k.bindings) (known-resolved i n)
 
   opened-binds : (e : ℕ) (i : Identifier) (exports : Bool) (region : Option ℕ) (n : Names) → Elsewhere n → Binds n (package_opened e i exports region n)
   opened-binds e i exports None n other = apart-binds None i None [] n other

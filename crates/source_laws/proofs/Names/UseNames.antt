@@ -1,5 +1,6 @@
 -- What a direct name denotes by the table, use clauses included, is what it means by position.
-use Rattle.std.proofs.Common.{◌≡◌, inl, inr, ℕ, Bool, true, false, cond, not, ◌&&◌, List, [], ◌∷◌, ◌++◌, map, Option, Some, None, option_map, slice_get, refl, sym, ap, subst, ◌∙◌}
+use Rattle.std.proofs.Common.{◌≡◌, inl, inr, ℕ, Bool, true, false, cond, not, ◌&&◌, List, [], ◌∷◌, ◌++◌}
+use Rattle.std.proofs.Common.{map, Option, Some, None, option_map, slice_get, refl, sym, ap, subst, ◌∙◌}
 use Rattle.std.proofs.lemmas.Bool.{and_parts}
 use Rattle.ann_base.specs.declared.places.Place.{Place}
 use Rattle.ada_tree.specs.declared.names.Identifier.{Identifier}
@@ -65,7 +66,9 @@ found-noted i n none = go (sought n i.text)
 
 differ-first : (xs ys : List Place) → all_differ (xs ++ ys) ≡ true → all_differ xs ≡ true
 differ-first [] ys e = refl
-differ-first (x ∷ xs) ys e = go (is_among x xs) (both-false x (is_among x xs) (is_among x ys) (sym (among-append x xs ys) ∙ not-true (is_among x (xs ++ ys)) both.0)).0 (differ-first xs ys both.1)
+differ-first (x ∷ xs) ys e =
+    go (is_among x xs) (both-false x (is_among x xs) (is_among x ys) (sym (among-append x xs ys) ∙ not-true (is_among x (xs ++ ys)) both.0)).0
+    (differ-first xs ys both.1)
   where
     both : (not (is_among x (xs ++ ys)) ≡ true) × (all_differ (xs ++ ys) ≡ true)
     both = and_parts (not (is_among x (xs ++ ys))) (all_differ (xs ++ ys)) e
@@ -83,7 +86,8 @@ differ-later p xs ys e first = go (is_among p ys) refl
     go false q = q
 
 -- in a source that ends with what stands before `end`
-module _ (last : ℕ) (end : Before) (t : IsText end) (placed : IsPlaced end) (complete : bodies_complete_before end ≡ true) (apart : all_differ (places_before end) ≡ true) where
+module _ (last : ℕ) (end : Before) (t : IsText end) (placed : IsPlaced end) (complete : bodies_complete_before end ≡ true)
+    (apart : all_differ (places_before end) ≡ true) where
   abbrev meant : Denoted → Meaning
   meant = told last end t placed complete apart
 
@@ -96,7 +100,8 @@ module _ (last : ℕ) (end : Before) (t : IsText end) (placed : IsPlaced end) (c
 
   -- ---- the name of a clause that stands behind b
 
-  module _ (q : Name) (b c : Before) (stands : Stands (use_package q ∷ b) c) (up : Stands c end) (l : looks (around c) ≡ true) (name : List ℕ) (says : Says b) where
+  module _ (q : Name) (b c : Before) (stands : Stands (use_package q ∷ b) c) (up : Stands c end) (l : looks (around c) ≡ true) (name : List ℕ)
+      (says : Says b) where
     abbrev first : Identifier
     first = q.parts.first
 
@@ -121,7 +126,8 @@ module _ (last : ℕ) (end : Before) (t : IsText end) (placed : IsPlaced end) (c
     first-alone : (is_among first.place (map place_of q.parts.others) ≡ false) × (is_among first.place (places_before b) ≡ false)
     first-alone = both-false first.place (is_among first.place (map place_of q.parts.others)) (is_among first.place (places_before b)) (
         sym (among-append first.place (map place_of q.parts.others) (places_before b))
-        ∙ not-true (is_among first.place (map place_of q.parts.others ++ places_before b)) (and_parts (not (is_among first.place (map place_of q.parts.others ++ places_before b))) _ differ).0)
+        ∙ not-true (is_among first.place (map place_of q.parts.others ++ places_before b))
+        (and_parts (not (is_among first.place (map place_of q.parts.others ++ places_before b))) _ differ).0)
 
     others-differ : all_differ (map place_of q.parts.others ++ places_before b) ≡ true
     others-differ = (and_parts (not (is_among first.place (map place_of q.parts.others ++ places_before b))) _ differ).1
@@ -132,9 +138,11 @@ module _ (last : ℕ) (end : Before) (t : IsText end) (placed : IsPlaced end) (c
     same-known : known behind_it ≡ known before_first
     same-known = known-resolved first before_first
 
-    entity-used : (y : ℕ) (x : Entity) → slice_get (known_at last b).entities y ≡ Some x → used_package behind_it (Some (denotes.Entity y)) ≡ cond (is_package_kind x.kind) (Some (denotes.Entity y)) None
+    entity-used : (y : ℕ) (x : Entity) → slice_get (known_at last b).entities y ≡ Some x
+        → used_package behind_it (Some (denotes.Entity y)) ≡ cond (is_package_kind x.kind) (Some (denotes.Entity y)) None
     entity-used y x there =
-        ap (λ (k : Known). cond (holds_of is_package_kind (option_map (λ (w : Entity). w.kind) (slice_get k.entities y))) (Some (denotes.Entity y)) None) same-known
+        ap (λ (k : Known).
+        cond (holds_of is_package_kind (option_map (λ (w : Entity). w.kind) (slice_get k.entities y))) (Some (denotes.Entity y)) None) same-known
         ∙ ap (λ z. cond (holds_of is_package_kind (option_map (λ (w : Entity). w.kind) z)) (Some (denotes.Entity y)) None) there
 
     -- a direct name
@@ -171,35 +179,47 @@ module _ (last : ℕ) (end : Before) (t : IsText end) (placed : IsPlaced end) (c
       ap (λ z. all_differ (map place_of z)) (sym e) ∙ differ-first (map place_of q.parts.others) (places_before b) others-differ,
       λ p among. (
           let here : is_among p (map place_of q.parts.others) ≡ true = ap (λ z. is_among p (map place_of z)) e ∙ among in
-          same-resolved p first before_first (other-place p here) ∙ never-noted last p b (differ-later p (map place_of q.parts.others) (places_before b) others-differ here)),
+          same-resolved p first before_first (other-place p here)
+          ∙ never-noted last p b (differ-later p (map place_of q.parts.others) (places_before b) others-differ here)),
     )
       where
         other-place : (p : Place) → is_among p (map place_of q.parts.others) ≡ true → same_place p first.place ≡ false
         other-place p here = go (same_place p first.place) refl
           where
             go : (k : Bool) → same_place p first.place ≡ k → same_place p first.place ≡ false
-            go true h = absurd (false-true (sym first-alone.0 ∙ (ap (λ z. is_among z (map place_of q.parts.others)) (sym (same_place-path p first.place h)) ∙ here)))
+            go true h =
+                absurd (false-true (sym first-alone.0 ∙ (ap (λ z. is_among z (map place_of q.parts.others)) (sym (same_place-path p first.place h)) ∙ here)))
             go false h = h
 
     parts-show : (parts : List Identifier) → q.parts.others ≡ parts → (s : Sought) → sought before_first first.text ≡ s
-        → ShowsAt c name (child_meaning (meaning_sought meant s) parts) (used_package (parts_resolved (found s) parts behind_it) (denoted_at (parts_resolved (found s) parts behind_it) (last_from first parts).place))
+        → ShowsAt c name (child_meaning (meaning_sought meant s) parts)
+        (used_package (parts_resolved (found s) parts behind_it) (denoted_at (parts_resolved (found s) parts behind_it) (last_from first parts).place))
     parts-show [] e s sought-s =
-        first-shows s sought-s ∙ ap (λ z. option_map meant (and_then (used_package behind_it z) (visible_in (table_at last c) name))) (sym (first-denoted ∙ ap found sought-s))
+        first-shows s sought-s
+        ∙ ap (λ z. option_map meant (and_then (used_package behind_it z) (visible_in (table_at last c) name))) (sym (first-denoted ∙ ap found sought-s))
     parts-show (i ∷ rest) e s sought-s =
-        ends-show (parts_resolved (found s) (i ∷ rest) behind_it) (denoted_at (parts_resolved (found s) (i ∷ rest) behind_it) (last_from i rest).place) (child_meaning (meaning_sought meant s) (i ∷ rest))
+        ends-show (parts_resolved (found s) (i ∷ rest) behind_it) (denoted_at (parts_resolved (found s) (i ∷ rest) behind_it) (last_from i rest).place)
+        (child_meaning (meaning_sought meant s) (i ∷ rest))
         (parts-end (found s) (meaning_sought meant s) i rest behind_it (first-fits s sought-s) (subst IsSound (sym same-known) (sound-kept last b b-text))
-        (subst Unowned (ap (λ z. z.frames) (sym (clauses-resolved first before_first))) (unowned-kept last b b-text (placed-stands b end b-up placed) (complete-stands b end b-up complete))) (unnoted i rest e))
+        (subst Unowned (ap (λ z. z.frames) (sym (clauses-resolved first before_first)))
+        (unowned-kept last b b-text (placed-stands b end b-up placed) (complete-stands b end b-up complete)))
+        (unnoted i rest e))
 
     clause-shows : ShowsAt c name (clause_means last q b) (used_at last q b)
     unfolding name_resolved
     clause-shows =
         ap (λ m. visible_by last name c (child_meaning m q.parts.others)) (sym (says first.text))
         ∙ (parts-show q.parts.others refl (sought before_first first.text) refl
-        ∙ ap (λ z. option_map meant (and_then (used_package (parts_resolved z q.parts.others behind_it) (denoted_at (parts_resolved z q.parts.others behind_it) (last_from first q.parts.others).place)) (visible_in (table_at last c) name))) (sym first-denoted))
+        ∙ ap (λ z. option_map meant
+        (and_then (used_package (parts_resolved z q.parts.others behind_it)
+        (denoted_at (parts_resolved z q.parts.others behind_it) (last_from first q.parts.others).place))
+        (visible_in (table_at last c) name)))
+        (sym first-denoted))
 
   -- ---- at a position
 
-  module _ (c : Before) (up : Stands c end) (l : looks (around c) ≡ true) (older : (b : Before) (q : Name) → Stands (use_package q ∷ b) c → Says b) (name : List ℕ) where
+  module _ (c : Before) (up : Stands c end) (l : looks (around c) ≡ true) (older : (b : Before) (q : Name) → Stands (use_package q ∷ b) c → Says b)
+      (name : List ℕ) where
     abbrev here : Names
     here = table_at last c
 
@@ -222,7 +242,8 @@ module _ (last : ℕ) (end : Before) (t : IsText end) (placed : IsPlaced end) (c
           q,
           b,
           f.2,
-          open-stands last c b k bs (around c) (all-around 0 c) positive (subst (λ r. Among r (map (here_at last) (around c) ++ 0 ∷ [])) f.4 (subst (Among u.region) k.regions.opened h.2)),
+          open-stands last c b k bs (around c) (all-around 0 c) positive
+              (subst (λ r. Among r (map (here_at last) (around c) ++ 0 ∷ [])) f.4 (subst (Among u.region) k.regions.opened h.2)),
           clause-shows q b c f.2 up l name (older b q f.2) ∙ (ap (λ z. option_map meant (and_then z (visible_in here name))) f.3 ∙ ap (option_map meant) h.3),
         )
 
@@ -234,9 +255,11 @@ module _ (last : ℕ) (end : Before) (t : IsText end) (placed : IsPlaced end) (c
 
         among : Among (here_at last b) open_regions
         among =
-            let k = kept-here last end t placed complete apart c up in subst (Among (here_at last b)) (sym k.regions.opened) (stands-open last c b k bs (around c) (all-around 0 c) a)
+            let k = kept-here last end t placed complete apart c up in
+            subst (Among (here_at last b)) (sym k.regions.opened) (stands-open last c b k bs (around c) (all-around 0 c) a)
 
-        by_shown : (w : Denoted) → used_at last q b ≡ Some w → (x : Option Denoted) → visible_in here name w ≡ x → option_map meant x ≡ Some m → (d : Denoted) × ShownBy here name open_regions d × (meant d ≡ m)
+        by_shown : (w : Denoted) → used_at last q b ≡ Some w → (x : Option Denoted) → visible_in here name w ≡ x → option_map meant x ≡ Some m
+            → (d : Denoted) × ShownBy here name open_regions d × (meant d ≡ m)
         by_shown w e None g h = cc
         by_shown w e (Some d) g h = (
           d,
@@ -244,7 +267,8 @@ module _ (last : ℕ) (end : Before) (t : IsText end) (placed : IsPlaced end) (c
           (let same : meant d ≡ m = cc in same),
         )
 
-        by_used : (x : Option Denoted) → used_at last q b ≡ x → option_map meant (and_then x (visible_in here name)) ≡ Some m → (d : Denoted) × ShownBy here name open_regions d × (meant d ≡ m)
+        by_used : (x : Option Denoted) → used_at last q b ≡ x → option_map meant (and_then x (visible_in here name)) ≡ Some m
+            → (d : Denoted) × ShownBy here name open_regions d × (meant d ≡ m)
         by_used None e h = cc
         by_used (Some w) e h = by_shown w e (visible_in here name w) refl h
 
@@ -252,9 +276,11 @@ module _ (last : ℕ) (end : Before) (t : IsText end) (placed : IsPlaced end) (c
     used-means =
         told-one meant (ShownBy here name open_regions) (ClauseShows (clause_means last) last name c c) to from
         (λ d e x y same. alike last end t placed complete apart c up name x.0.used y.0.used d e x.3 y.3 same) (agree last end t placed complete apart)
-        (used_around here name here.frames) (by_clauses (clause_means last) last name c c) (tells-used here name here.frames) (lists-clauses (clause_means last) last name c c)
+        (used_around here name here.frames) (by_clauses (clause_means last) last name c c) (tells-used here name here.frames)
+        (lists-clauses (clause_means last) last name c c)
 
-    or-meant : (used : Sought) (x : Option (Option Denoted)) → meaning_sought meant (found_or used x) ≡ meaning_or (meaning_sought meant used) (option_map (told_meaning (table_at last end)) x)
+    or-meant : (used : Sought) (x : Option (Option Denoted))
+        → meaning_sought meant (found_or used x) ≡ meaning_or (meaning_sought meant used) (option_map (told_meaning (table_at last end)) x)
     or-meant used None = refl
     or-meant used (Some None) = refl
     or-meant used (Some (Some d)) = refl
@@ -273,7 +299,8 @@ module _ (last : ℕ) (end : Before) (t : IsText end) (placed : IsPlaced end) (c
   pub all-say : (c : Before) → Stands c end → (b : Before) → Stands b c → looks (around b) ≡ true → Says b
   all-say [] up b s l = absurd (false-true (ap (λ z. looks (around z)) (sym s) ∙ l))
   all-say (o ∷ c) up b (inl e) l =
-      subst Says (sym e) (name-says (o ∷ c) up (ap (λ z. looks (around z)) (sym e) ∙ l) (λ d q stands. all-say c (stands-tail o c end up) d (clause-before q d stands) (
+      subst Says (sym e)
+      (name-says (o ∷ c) up (ap (λ z. looks (around z)) (sym e) ∙ l) (λ d q stands. all-say c (stands-tail o c end up) d (clause-before q d stands) (
       (placed-stands (use_package q ∷ d) end (stands-trans (use_package q ∷ d) (o ∷ c) end stands up) placed).0)))
     where
       clause-before : (q : Name) (d : Before) → Stands (use_package q ∷ d) (o ∷ c) → Stands d c

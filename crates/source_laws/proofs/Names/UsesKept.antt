@@ -1,6 +1,7 @@
 -- The use clauses of the table are those of the text, each with what its name denotes where it stands; and the regions that are
 -- open are those around.
-use Rattle.std.proofs.Common.{◌≡◌, ◌⊎◌, inl, inr, ℕ, Bool, true, false, cond, ◌||◌, List, [], ◌∷◌, ◌++◌, map, Option, Some, None, append-nil, eqb, refl, sym, ap, subst, ◌∙◌, eqb-true, eq-eqb}
+use Rattle.std.proofs.Common.{◌≡◌, ◌⊎◌, inl, inr, ℕ, Bool, true, false, cond, ◌||◌, List, [], ◌∷◌, ◌++◌, map}
+use Rattle.std.proofs.Common.{Option, Some, None, append-nil, eqb, refl, sym, ap, subst, ◌∙◌, eqb-true, eq-eqb}
 use Rattle.std.specs.List.{list_any}
 use Rattle.ada_tree.specs.declared.names.Name.{Name}
 use Rattle.ada_regions.specs.declared.entities.Denoted.{Denoted}
@@ -43,11 +44,14 @@ unfolding clause_of
 uses-if None m = sym (append-nil m.uses)
 uses-if (Some d) m = go (is_used_package m d)
   where
-    go : (t : Bool) → (cond t (record m { uses = m.uses ++ record { region = region_here m; used = d } ∷ [] }) m).uses ≡ m.uses ++ clause_of (cond t (Some d) None) (region_here m)
+    go : (t : Bool)
+        → (cond t (record m { uses = m.uses ++ record { region = region_here m; used = d } ∷ [] }) m).uses
+        ≡ m.uses ++ clause_of (cond t (Some d) None) (region_here m)
     go true = refl
     go false = sym (append-nil m.uses)
 
-uses-used : (last : ℕ) (p : Name) (b : Before) → (table_at last (use_package p ∷ b)).uses ≡ (table_at last b).uses ++ clause_of (used_at last p b) (here_at last b)
+uses-used : (last : ℕ) (p : Name) (b : Before)
+    → (table_at last (use_package p ∷ b)).uses ≡ (table_at last b).uses ++ clause_of (used_at last p b) (here_at last b)
 unfolding behind used
 uses-used last p b =
     let n : Names = table_at last b in
@@ -94,9 +98,11 @@ clause-to u x region e r = subst (λ z. Among u (clause_of z region)) (sym e) (i
 
 pub uses-from : (last : ℕ) (c : Before) (u : UseClause) → Among u (table_at last c).uses → UsedClause last c u
 uses-from last [] u a = absurd a
-uses-from last (use_package p ∷ c) u a = go (among-either u (table_at last c).uses (clause_of (used_at last p c) (here_at last c)) (subst (Among u) (uses-used last p c) a)) (uses-from last c u)
+uses-from last (use_package p ∷ c) u a =
+    go (among-either u (table_at last c).uses (clause_of (used_at last p c) (here_at last c)) (subst (Among u) (uses-used last p c) a)) (uses-from last c u)
   where
-    go : Among u (table_at last c).uses ⊎ Among u (clause_of (used_at last p c) (here_at last c)) → (Among u (table_at last c).uses → UsedClause last c u) → UsedClause last (use_package p ∷ c) u
+    go : Among u (table_at last c).uses ⊎ Among u (clause_of (used_at last p c) (here_at last c)) → (Among u (table_at last c).uses → UsedClause last c u)
+        → UsedClause last (use_package p ∷ c) u
     go (inl h) more = clause-farther last (use_package p) c u (more h)
     go (inr h) more = let f = clause-from u (used_at last p c) (here_at last c) h in (p, c, inl refl, f.0, f.1)
 uses-from last (o ∷ c) u a = clause-farther last o c u (uses-from last c u (subst (Among u) (uses-behind o (table_at last c) tt) a))
@@ -108,9 +114,11 @@ uses-to last (use_package q ∷ c) u (p, b, inl e, d, r) =
     let rest : b ≡ c = cc in
     subst (Among u) (sym (uses-used last q c))
     (among-last u (table_at last c).uses (clause_of (used_at last q c) (here_at last c))
-    (clause-to u (used_at last q c) (here_at last c) (ap (λ z. used_at last z c) (sym name) ∙ (ap (used_at last p) (sym rest) ∙ d)) (r ∙ ap (here_at last) rest)))
+    (clause-to u (used_at last q c) (here_at last c) (ap (λ z. used_at last z c) (sym name) ∙ (ap (used_at last p) (sym rest) ∙ d))
+    (r ∙ ap (here_at last) rest)))
 uses-to last (use_package q ∷ c) u (p, b, inr s, d, r) =
-    subst (Among u) (sym (uses-used last q c)) (among-first u (table_at last c).uses (clause_of (used_at last q c) (here_at last c)) (uses-to last c u (p, b, s, d, r)))
+    subst (Among u) (sym (uses-used last q c))
+    (among-first u (table_at last c).uses (clause_of (used_at last q c) (here_at last c)) (uses-to last c u (p, b, s, d, r)))
 uses-to last (o ∷ c) u (p, b, inl e, d, r) = let h : o ≡ use_package p = cc in cc
 uses-to last (o ∷ c) u (p, b, inr s, d, r) = subst (Among u) (sym (uses-behind o (table_at last c) tt)) (uses-to last c u (p, b, s, d, r))
 
@@ -126,11 +134,14 @@ module _ (last : ℕ) (c b : Before) (k : Kept last c) (stands : Stands b c) whe
   stands-open [] a e = absurd (false-true e)
   stands-open (x ∷ bs) a e = go (of_position x) refl e (stands-open bs a.2)
     where
-      go : (t : Bool) → of_position x ≡ t → (t || list_any of_position bs) ≡ true → (list_any of_position bs ≡ true → Among (here_at last b) (map (here_at last) bs ++ 0 ∷ [])) → Among (here_at last b) (map (here_at last) (x ∷ bs) ++ 0 ∷ [])
+      go : (t : Bool) → of_position x ≡ t → (t || list_any of_position bs) ≡ true
+          → (list_any of_position bs ≡ true → Among (here_at last b) (map (here_at last) bs ++ 0 ∷ []))
+          → Among (here_at last b) (map (here_at last) (x ∷ bs) ++ 0 ∷ [])
       go true q h more = inl (k.regions.alike x b a.0 stands (ap number_of a.1 ∙ eqb-true (number_of x) (region_of_position b) q))
       go false q h more = inr (more h)
 
-  pub open-stands : (bs : List Before) → AllAround bs c → (region_of_position b ≡ 0 → ⊥) → Among (here_at last b) (map (here_at last) bs ++ 0 ∷ []) → list_any of_position bs ≡ true
+  pub open-stands : (bs : List Before) → AllAround bs c → (region_of_position b ≡ 0 → ⊥) → Among (here_at last b) (map (here_at last) bs ++ 0 ∷ [])
+      → list_any of_position bs ≡ true
   unfolding AllAround
   open-stands [] a positive (inl e) = absurd (positive (k.regions.same b [] stands (stands-start c) (sym e) ∙ number-start))
   open-stands [] a positive (inr h) = absurd h

@@ -23,7 +23,8 @@ use Rattle.source_laws.proofs.Accepted.Counting.{count-append}
 
 -- ---- identifiers of a spelling are tokens
 
-one-spelt : (p : Place) (identifier : Bool) (at : Option Place) (place : Place) → StandsAt at place → identifier_at p identifier at ≤ one_if (same_place p place)
+one-spelt : (p : Place) (identifier : Bool) (at : Option Place) (place : Place) → StandsAt at place
+    → identifier_at p identifier at ≤ one_if (same_place p place)
 one-spelt p false at place stands = omega arith
 one-spelt p true None place stands = omega arith
 one-spelt p true (Some q) place stands = let h : one_if (same_place p q) ≡ one_if (same_place p place) = ap (λ x. one_if (same_place p x)) stands in omega arith

@@ -1,5 +1,6 @@
 -- What an occurrence adds to the entities of a table, and to those that have a body.
-use Rattle.std.proofs.Common.{◌≡◌, ◌⊎◌, inl, inr, ℕ, Bool, true, false, cond, ◌||◌, List, [], ◌∷◌, ◌++◌, Option, Some, None, is_some, eqb, eq-eqb, refl, sym, ap, ◌∙◌}
+use Rattle.std.proofs.Common.{◌≡◌, ◌⊎◌, inl, inr, ℕ, Bool, true, false, cond, ◌||◌, List, [], ◌∷◌}
+use Rattle.std.proofs.Common.{◌++◌, Option, Some, None, is_some, eqb, eq-eqb, refl, sym, ap, ◌∙◌}
 use Rattle.std.specs.List.{list_any}
 use Rattle.std.proofs.lemmas.Bool.{or_right}
 use Rattle.ann_base.specs.declared.places.Place.{Place}
@@ -16,16 +17,24 @@ use Rattle.ada_regions.specs.declared.table.Frame.{Frame}
 use Rattle.ada_regions.specs.declared.table.Names.{Names}
 use Rattle.ada_regions.specs.declared.table.PackageContext.{PackageContext}
 use Rattle.ada_regions.specs.Words.{and_then}
-use Rattle.ada_regions.specs.Names.{entity_of, entity_denoted, kind_at, noted, region_here, region_of_entity, enclosure_here, binding_in, innermost_frame, denoted_in}
-use Rattle.ada_regions.specs.Occurrences.{Occurrence, Declared, Region, the_package, the_main_procedure, the_context, the_context_of, further_context, package_region, package_body, main_body, a_profile, subprogram_body, a_unit, task_body, protected_body, entry_body, an_accept, a_block, a_loop, a_record, begins, ends, private_from_here, hides, heads, declares, declares_unit, completes, is_called, mentions, mentions_simply, mentions_entry, with_unit, use_package}
+use Rattle.ada_regions.specs.Names.{entity_of, entity_denoted, kind_at, noted, region_here, region_of_entity}
+use Rattle.ada_regions.specs.Names.{enclosure_here, binding_in, innermost_frame, denoted_in}
+use Rattle.ada_regions.specs.Occurrences.{Occurrence, Declared, Region, the_package, the_main_procedure, the_context, the_context_of, further_context}
+use Rattle.ada_regions.specs.Occurrences.{package_region, package_body, main_body, a_profile, subprogram_body, a_unit, task_body, protected_body}
+use Rattle.ada_regions.specs.Occurrences.{entry_body, an_accept, a_block, a_loop, a_record, begins, ends, private_from_here, hides, heads, declares}
+use Rattle.ada_regions.specs.Occurrences.{declares_unit, completes, is_called, mentions, mentions_simply, mentions_entry, with_unit, use_package}
 use Rattle.ada_regions.specs.Visibility.{resolved}
 use Rattle.ada_regions.specs.Declaring.{hidden, with_binding, declared, type_of_kind}
-use Rattle.ada_regions.specs.Completions.{completed, completed_in, is_specified, headed, entity_bound, is_unit, has_body, seen_again, task_numbered, task_scoped, body_of_unit, body_apart, first_body, later_body, body_here, body_elsewhere, body_sought, body_begun_at, body_begun}
-use Rattle.ada_regions.specs.Regions.{begun, next_scope, with_scope, with_context, context_again, package_opened, package_begun, package_body_begun, opened_if, unit_begun, record_begun, library_unit}
+use Rattle.ada_regions.specs.Completions.{completed, completed_in, is_specified, headed, entity_bound, is_unit, has_body}
+use Rattle.ada_regions.specs.Completions.{seen_again, task_numbered, task_scoped, body_of_unit, body_apart, first_body}
+use Rattle.ada_regions.specs.Completions.{later_body, body_here, body_elsewhere, body_sought, body_begun_at, body_begun}
+use Rattle.ada_regions.specs.Regions.{begun, next_scope, with_scope, with_context, context_again, package_opened}
+use Rattle.ada_regions.specs.Regions.{package_begun, package_body_begun, opened_if, unit_begun, record_begun, library_unit}
 use Rattle.ada_regions.specs.Numbered.{behind}
 use Rattle.source_laws.specs.Positions.{Before}
 use Rattle.source_laws.proofs.Names.Known.{known, known-resolved, known-name_resolved, known-entry_mentioned, known-withed, known-used}
-use Rattle.source_laws.proofs.Names.KnownDeclared.{Declares, IsInner, known-declared, known-package_declared, known-main_declared, outer, known-completed, known-body_declared}
+use Rattle.source_laws.proofs.Names.KnownDeclared.{Declares, IsInner, known-declared, known-package_declared}
+use Rattle.source_laws.proofs.Names.KnownDeclared.{known-main_declared, outer, known-completed, known-body_declared}
 use Rattle.source_laws.proofs.Names.KnownBegun.{IsOwn, denoted-noted, known-own, known-body_begun, known-body_of_unit}
 use Rattle.source_laws.proofs.Names.Texts.{FitsHere}
 use Rattle.source_laws.specs.Bodies.{body_named}
@@ -44,7 +53,8 @@ pub record FirstBody (kind : UnitKind) (i : Identifier) (e : ℕ) (n m : Names) 
 pub data BodiesAfter (o : Occurrence) (n m : Names) : Type 0 where
   no_body : m.bodies ≡ n.bodies → BodiesAfter o n m
   subprogram_body_of : (e : ℕ) → is_specified n e ≡ true → m.bodies ≡ e ∷ n.bodies → BodiesAfter o n m
-  unit_body_of : (kind : UnitKind) (i : Identifier) (e : ℕ) → body_named o ≡ Some (kind, i) → FirstBody kind i e n m → m.bodies ≡ e ∷ n.bodies → BodiesAfter o n m
+  unit_body_of : (kind : UnitKind) (i : Identifier) (e : ℕ) → body_named o ≡ Some (kind, i) → FirstBody kind i e n m → m.bodies ≡ e ∷ n.bodies
+      → BodiesAfter o n m
 
 pub record After (o : Occurrence) (n m : Names) : Type 0 where
   pub entities : EntitiesAfter o n m
@@ -78,17 +88,21 @@ pub record BodyBegun (kind : UnitKind) (i : Identifier) (n m : Names) : Type 0 w
   pub bodies : (m.bodies ≡ n.bodies) ⊎ ((e : ℕ) × FirstBody kind i e n m × (m.bodies ≡ e ∷ n.bodies))
 
 module _ (kind : UnitKind) (i : Identifier) (scope : Option ℕ) (n : Names) where
-  apart-noted : (owner : Option ℕ) (seen : List Binding) (m : Names) → m.entities ≡ n.entities → m.bodies ≡ n.bodies → BodyBegun kind i n (body_apart owner i scope seen m)
+  apart-noted : (owner : Option ℕ) (seen : List Binding) (m : Names) → m.entities ≡ n.entities → m.bodies ≡ n.bodies
+      → BodyBegun kind i n (body_apart owner i scope seen m)
   unfolding body_apart
   apart-noted owner seen m e f = record { entities = e; bodies = inl f }
 
-  first-begun : (e : ℕ) (region : Option ℕ) → entity_bound n (region_here n) i.text ≡ Some e → is_unit kind n e ≡ true → BodyBegun kind i n (first_body e region i scope (noted i.place (denotes.Entity e) n))
+  first-begun : (e : ℕ) (region : Option ℕ) → entity_bound n (region_here n) i.text ≡ Some e → is_unit kind n e ≡ true
+      → BodyBegun kind i n (first_body e region i scope (noted i.place (denotes.Entity e) n))
   unfolding first_body
   first-begun e None bound is = apart-noted None [] (noted i.place (denotes.Entity e) n) refl refl
   first-begun e (Some region) bound is = go (has_body n e) refl
     where
       go : (t : Bool) → has_body n e ≡ t
-          → BodyBegun kind i n (cond t (body_apart (Some e) i scope (seen_again (noted i.place (denotes.Entity e) n) region) (noted i.place (denotes.Entity e) n)) (body_of_unit e region i scope (noted i.place (denotes.Entity e) n)))
+          → BodyBegun kind i n
+          (cond t (body_apart (Some e) i scope (seen_again (noted i.place (denotes.Entity e) n) region) (noted i.place (denotes.Entity e) n))
+          (body_of_unit e region i scope (noted i.place (denotes.Entity e) n)))
       go true q = apart-noted (Some e) (seen_again (noted i.place (denotes.Entity e) n) region) (noted i.place (denotes.Entity e) n) refl refl
       go false q =
           let same = known-body_of_unit e region i scope (noted i.place (denotes.Entity e) n) in
@@ -100,7 +114,8 @@ module _ (kind : UnitKind) (i : Identifier) (scope : Option ℕ) (n : Names) whe
                 bound = bound;
                 unit = is;
                 first = q;
-                denoted = ap (λ lines. and_then (denoted_in lines i.place) entity_of) (body_of_unit-denotes e region i scope (noted i.place (denotes.Entity e) n))
+                denoted =
+                    ap (λ lines. and_then (denoted_in lines i.place) entity_of) (body_of_unit-denotes e region i scope (noted i.place (denotes.Entity e) n))
                     ∙ ap (λ d. and_then d entity_of) (denoted-noted i.place (denotes.Entity e) n.denotations);
               },
               ap (λ k. k.bodies) same,
@@ -111,7 +126,8 @@ module _ (kind : UnitKind) (i : Identifier) (scope : Option ℕ) (n : Names) whe
   unfolding body_here
   here-begun e bound = go (is_unit kind n e) refl
     where
-      go : (t : Bool) → is_unit kind n e ≡ t → BodyBegun kind i n (cond t (first_body e (region_of_entity n e) i scope (noted i.place (denotes.Entity e) n)) (body_apart None i scope [] n))
+      go : (t : Bool) → is_unit kind n e ≡ t
+          → BodyBegun kind i n (cond t (first_body e (region_of_entity n e) i scope (noted i.place (denotes.Entity e) n)) (body_apart None i scope [] n))
       go true q = first-begun e (region_of_entity n e) bound q
       go false q = apart-noted None [] n refl refl
 
@@ -140,17 +156,20 @@ module _ (kind : UnitKind) (i : Identifier) (scope : Option ℕ) (n : Names) whe
           elsewhere-begun (entity_denoted (resolved i n) i.place) (resolved i n) (ap (λ k. k.entities) same) (ap (λ k. k.bodies) same)
 
   -- behind the body of a unit that the region around it declares the unit has a body
-  pub body-there : (e region : ℕ) → entity_bound n (region_here n) i.text ≡ Some e → is_unit kind n e ≡ true → region_of_entity n e ≡ Some region → list_any (eqb e) (body_begun kind i scope n).bodies ≡ true
+  pub body-there : (e region : ℕ) → entity_bound n (region_here n) i.text ≡ Some e → is_unit kind n e ≡ true → region_of_entity n e ≡ Some region
+      → list_any (eqb e) (body_begun kind i scope n).bodies ≡ true
   body-there e region bound is there = go (has_body n e) refl
     where
-      begun-has : (m : Names) → has_body n e ≡ true → (m.bodies ≡ n.bodies) ⊎ ((f : ℕ) × FirstBody kind i f n m × (m.bodies ≡ f ∷ n.bodies)) → list_any (eqb e) m.bodies ≡ true
+      begun-has : (m : Names) → has_body n e ≡ true → (m.bodies ≡ n.bodies) ⊎ ((f : ℕ) × FirstBody kind i f n m × (m.bodies ≡ f ∷ n.bodies))
+          → list_any (eqb e) m.bodies ≡ true
       begun-has m has (inl same) = ap (list_any (eqb e)) same ∙ has
       begun-has m has (inr (f, b, added)) = ap (list_any (eqb e)) added ∙ or_right (eqb e f) (list_any (eqb e) n.bodies) has
 
       go : (t : Bool) → has_body n e ≡ t → list_any (eqb e) (body_begun kind i scope n).bodies ≡ true
       go true q = begun-has (body_begun kind i scope n) q body-begun.bodies
       go false q =
-          ap (λ k. list_any (eqb e) k.bodies) (known-body_begun kind i scope n e region bound is q there) ∙ ap (λ t. t || list_any (eqb e) n.bodies) (eq-eqb e e refl)
+          ap (λ k. list_any (eqb e) k.bodies) (known-body_begun kind i scope n e region bound is q there)
+          ∙ ap (λ t. t || list_any (eqb e) n.bodies) (eq-eqb e e refl)
 
 after-body : (o : Occurrence) (kind : UnitKind) (i : Identifier) (n m : Names) → body_named o ≡ Some (kind, i) → BodyBegun kind i n m → After o n m
 after-body o kind i n m named b = record { entities = no_entity b.entities; bodies = go b.bodies }
@@ -166,7 +185,8 @@ unfolding context_again
 context-again None n = (refl, refl)
 context-again (Some c) n = (refl, refl)
 
-package-opened : (e : ℕ) (i : Identifier) (exports : Bool) (region : Option ℕ) (n : Names) → ((package_opened e i exports region n).entities ≡ n.entities) × ((package_opened e i exports region n).bodies ≡ n.bodies)
+package-opened : (e : ℕ) (i : Identifier) (exports : Bool) (region : Option ℕ) (n : Names)
+    → ((package_opened e i exports region n).entities ≡ n.entities) × ((package_opened e i exports region n).bodies ≡ n.bodies)
 unfolding body_apart
 package-opened e i exports None n = (refl, refl)
 package-opened e i exports (Some region) n = (refl, refl)
@@ -192,11 +212,13 @@ after-pair : (o : Occurrence) (n m : Names) → (m.entities ≡ n.entities) × (
 after-pair o n m p = after-neither o n m p.0 p.1
 
 -- a task's body has a scope of its own
-with-scope : (o : Occurrence) (kind : UnitKind) (i : Identifier) (n s m : Names) → s.frames ≡ n.frames → s.bindings ≡ n.bindings → s.entities ≡ n.entities → s.bodies ≡ n.bodies
+with-scope : (o : Occurrence) (kind : UnitKind) (i : Identifier) (n s m : Names) → s.frames ≡ n.frames → s.bindings ≡ n.bindings → s.entities ≡ n.entities
+    → s.bodies ≡ n.bodies
     → ((e : ℕ) → is_unit kind s e ≡ is_unit kind n e) → BodyBegun kind i s m → BodyBegun kind i n m
 with-scope o kind i n s m frames bindings entities bodies is b = record { entities = b.entities ∙ entities; bodies = go b.bodies }
   where
-    go : (m.bodies ≡ s.bodies) ⊎ ((e : ℕ) × FirstBody kind i e s m × (m.bodies ≡ e ∷ s.bodies)) → (m.bodies ≡ n.bodies) ⊎ ((e : ℕ) × FirstBody kind i e n m × (m.bodies ≡ e ∷ n.bodies))
+    go : (m.bodies ≡ s.bodies) ⊎ ((e : ℕ) × FirstBody kind i e s m × (m.bodies ≡ e ∷ s.bodies))
+        → (m.bodies ≡ n.bodies) ⊎ ((e : ℕ) × FirstBody kind i e n m × (m.bodies ≡ e ∷ n.bodies))
     go (inl same) = inl (same ∙ bodies)
     go (inr (e, first, more)) = inr (
       e,
@@ -214,7 +236,8 @@ after-task : (i : Identifier) (place : Place) (n : Names) → After (begins (tas
 unfolding begun is_unit
 after-task i place n =
     after-body (begins (task_body i place)) unit.Task i n _ refl
-    (with-scope (begins (task_body i place)) unit.Task i n (with_scope place false false n) _ refl refl refl refl (λ e. refl) (body-begun unit.Task i (next_scope n) (with_scope place false false n)))
+    (with-scope (begins (task_body i place)) unit.Task i n (with_scope place false false n) _ refl refl refl refl (λ e. refl)
+    (body-begun unit.Task i (next_scope n) (with_scope place false false n)))
 
 after-protected : (i : Identifier) (n : Names) → After (begins (protected_body i)) n (begun (protected_body i) n)
 unfolding begun
@@ -259,14 +282,21 @@ after-completes i s n = go (completed_in n (outer n).region i.text) refl
     go : (x : Option ℕ) → completed_in n (outer n).region i.text ≡ x → After (completes i s) n (completed i s n)
     go (Some e) found =
         let q = known-completed i s n e found in
-        record { entities = no_entity (ap (λ k. k.entities) q); bodies = subprogram_body_of e (completed-specified n (outer n).region i.text e found) (ap (λ k. k.bodies) q) }
-    go None found = let d = known-body_declared i s n found in record { entities = one_entity d.0 d.1 (ap (λ k. k.entities) d.2); bodies = no_body (ap (λ k. k.bodies) d.2) }
+        record {
+          entities = no_entity (ap (λ k. k.entities) q);
+          bodies = subprogram_body_of e (completed-specified n (outer n).region i.text e found) (ap (λ k. k.bodies) q);
+        }
+    go None found =
+        let d = known-body_declared i s n found in
+        record { entities = one_entity d.0 d.1 (ap (λ k. k.entities) d.2); bodies = no_body (ap (λ k. k.bodies) d.2) }
 
 hidden-pair : (i : Identifier) (n : Names) → ((hidden i n).entities ≡ n.entities) × ((hidden i n).bodies ≡ n.bodies)
 unfolding hidden
 hidden-pair i n = go (is_some (binding_in n.bindings (region_here n) i.text))
   where
-    go : (t : Bool) → ((cond t n (with_binding (enclosure_here n) i.text None n)).entities ≡ n.entities) × ((cond t n (with_binding (enclosure_here n) i.text None n)).bodies ≡ n.bodies)
+    go : (t : Bool)
+        → ((cond t n (with_binding (enclosure_here n) i.text None n)).entities ≡ n.entities)
+        × ((cond t n (with_binding (enclosure_here n) i.text None n)).bodies ≡ n.bodies)
     go true = (refl, refl)
     go false = (refl, refl)
 
@@ -280,13 +310,17 @@ headed-pair i n = go (is_some (completed_in n (region_here n) i.text))
 
 -- ---- all occurrences
 
-after-unit : (i : Identifier) (what : Declared) (n : Names) (before : Before) → FitsHere (declares_unit i what) before → After (declares_unit i what) n (declared i what n)
-after-unit i the_package n before fits = let d = known-package_declared i n in record { entities = one_entity d.0 d.1 (ap (λ k. k.entities) d.2); bodies = no_body (ap (λ k. k.bodies) d.2) }
-after-unit i the_main_procedure n before fits = let d = known-main_declared i n in record { entities = one_entity d.0 d.1 (ap (λ k. k.entities) d.2); bodies = no_body (ap (λ k. k.bodies) d.2) }
+after-unit : (i : Identifier) (what : Declared) (n : Names) (before : Before) → FitsHere (declares_unit i what) before
+    → After (declares_unit i what) n (declared i what n)
+after-unit i the_package n before fits =
+    let d = known-package_declared i n in record { entities = one_entity d.0 d.1 (ap (λ k. k.entities) d.2); bodies = no_body (ap (λ k. k.bodies) d.2) }
+after-unit i the_main_procedure n before fits =
+    let d = known-main_declared i n in record { entities = one_entity d.0 d.1 (ap (λ k. k.entities) d.2); bodies = no_body (ap (λ k. k.bodies) d.2) }
 after-unit i _ n before fits = absurd fits
 
 after-declares : (i : Identifier) (what : Declared) (n : Names) → IsInner what → After (declares i what) n (declared i what n)
-after-declares i what n inner = let d = known-declared i what n inner in record { entities = one_entity d.0 d.1 (ap (λ k. k.entities) d.2); bodies = no_body (ap (λ k. k.bodies) d.2) }
+after-declares i what n inner =
+    let d = known-declared i what n inner in record { entities = one_entity d.0 d.1 (ap (λ k. k.entities) d.2); bodies = no_body (ap (λ k. k.bodies) d.2) }
 
 pub after : (o : Occurrence) (n : Names) (before : Before) → FitsHere o before → After o n (behind o n)
 unfolding behind

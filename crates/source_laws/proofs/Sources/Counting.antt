@@ -6,10 +6,12 @@ use Rattle.ann_base.specs.declared.places.Place.{Place}
 use Rattle.ada_tree.specs.declared.names.Identifier.{Identifier}
 use Rattle.ada_tree.specs.declared.names.Name.{Name}
 use Rattle.ada_tree.specs.declared.names.OneOrMore.{OneOrMore}
-use Rattle.ada_tree.specs.Written.{Written, delimiter, identifier_written, behind, separated, all_written, optional, enclosed, one_identifier, name_written, identifiers_written}
+use Rattle.ada_tree.specs.Written.{Written, delimiter, identifier_written, behind, separated, all_written}
+use Rattle.ada_tree.specs.Written.{optional, enclosed, one_identifier, name_written, identifiers_written}
 use Rattle.ada_tree.specs.ShapeExpressions.{all_fit, optional_fits}
 use Rattle.ada_regions.specs.Words.{same_place}
-use Rattle.ada_regions.specs.Occurrences.{Occurrence, Occurrences, Declared, Region, begins, ends, hides, declares, in_all, if_there, one, within_region, hides_all, declares_all}
+use Rattle.ada_regions.specs.Occurrences.{Occurrence, Occurrences, Declared, Region, begins, ends, hides}
+use Rattle.ada_regions.specs.Occurrences.{declares, in_all, if_there, one, within_region, hides_all, declares_all}
 use Rattle.grammar_laws.proofs.Reading.Exact.{first_true, second_true}
 use Rattle.source_laws.specs.Places.{place_of, places_of_parts, places_in}
 
@@ -57,7 +59,9 @@ covers-both {l} {m} {a} {b} {v} {w} x y = record {
 
 -- first a part without labels
 pub covers-then : {m a b : Occurrences} {v w : List Written} → Covers [] a v → Covers m b w → Covers m (a ++ b) (v ++ w)
-covers-then {m} {a} {b} {v} {w} x y = record { at = λ p. (let g = names-append p a b in let h = written-append p v w in let s = x.at p in let t = y.at p in omega arith) }
+covers-then {m} {a} {b} {v} {w} x y = record {
+  at = λ p. (let g = names-append p a b in let h = written-append p v w in let s = x.at p in let t = y.at p in omega arith);
+}
 
 -- a token or tokens before, of which no name is needed; tokens behind
 pub covers-skip : {l a : Occurrences} {ws : List Written} (w : Written) → Covers l a ws → Covers l a (w ∷ ws)
@@ -76,10 +80,12 @@ covers-quiet o none x = record { at = λ p. (let h : count p (places_in o) ≡ 0
 one-place : (p : Place) (o : Occurrence) (i : Identifier) → places_in o ≡ i.place ∷ [] → count p (places_in o) ≡ one_if (same_place p i.place)
 one-place p o i e = ap (count p) e ∙ omega arith
 
-pub covers-name : {l a : Occurrences} {ws : List Written} (i : Identifier) (o : Occurrence) → places_in o ≡ i.place ∷ [] → Covers l a ws → Covers l (o ∷ a) (identifier_written i ∷ ws)
+pub covers-name : {l a : Occurrences} {ws : List Written} (i : Identifier) (o : Occurrence) → places_in o ≡ i.place ∷ [] → Covers l a ws
+    → Covers l (o ∷ a) (identifier_written i ∷ ws)
 covers-name i o e x = record { at = λ p. (let h = one-place p o i e in let s = x.at p in omega arith) }
 
-pub covers-label : {l a : Occurrences} {ws : List Written} (i : Identifier) (o : Occurrence) → places_in o ≡ i.place ∷ [] → Covers l a ws → Covers (o ∷ l) a (identifier_written i ∷ ws)
+pub covers-label : {l a : Occurrences} {ws : List Written} (i : Identifier) (o : Occurrence) → places_in o ≡ i.place ∷ [] → Covers l a ws
+    → Covers (o ∷ l) a (identifier_written i ∷ ws)
 covers-label i o e x = record { at = λ p. (let h = one-place p o i e in let s = x.at p in omega arith) }
 
 parts-counted : (p : Place) (xs : List Identifier) → count p (map place_of xs) ≡ written_at p (flat_map (behind (delimiter (codes ".")) one_identifier) xs)
@@ -89,14 +95,19 @@ parts-counted p (x ∷ xs) = let h = parts-counted p xs in omega arith
 pub name-counted : (p : Place) (name : Name) → count p (places_of_parts name) ≡ written_at p (name_written name)
 name-counted p name = let h = parts-counted p name.parts.others in omega arith
 
-pub covers-mentions : {l a : Occurrences} {ws : List Written} (name : Name) (o : Occurrence) → places_in o ≡ places_of_parts name → Covers l a ws → Covers l (o ∷ a) (name_written name ++ ws)
+pub covers-mentions : {l a : Occurrences} {ws : List Written} (name : Name) (o : Occurrence) → places_in o ≡ places_of_parts name → Covers l a ws
+    → Covers l (o ∷ a) (name_written name ++ ws)
 covers-mentions {l} {a} {ws} name o e x = record {
-  at = λ p. (let h : count p (places_in o) ≡ written_at p (name_written name) = ap (count p) e ∙ name-counted p name in let g = written-append p (name_written name) ws in let s = x.at p in omega arith);
+  at =
+      λ p. (let h : count p (places_in o) ≡ written_at p (name_written name) = ap (count p) e ∙ name-counted p name in
+      let g = written-append p (name_written name) ws in let s = x.at p in omega arith);
 }
 
 -- a name with nothing behind it
 pub covers-mention : (name : Name) (o : Occurrence) → places_in o ≡ places_of_parts name → Covers [] (o ∷ []) (name_written name)
-covers-mention name o e = record { at = λ p. (let h : count p (places_in o) ≡ written_at p (name_written name) = ap (count p) e ∙ name-counted p name in omega arith) }
+covers-mention name o e = record {
+  at = λ p. (let h : count p (places_in o) ≡ written_at p (name_written name) = ap (count p) e ∙ name-counted p name in omega arith);
+}
 
 -- ---- the order does not matter
 
@@ -104,19 +115,27 @@ pub covers-swap : {l : Occurrences} {ws : List Written} (a b : Occurrences) → 
 covers-swap a b x = record { at = λ p. (let g = names-append p a b in let h = names-append p b a in let s = x.at p in omega arith) }
 
 pub covers-last : {ws : List Written} (a b c : Occurrences) → Covers c (a ++ b) ws → Covers [] (a ++ (b ++ c)) ws
-covers-last a b c x = record { at = λ p. (let f = names-append p a (b ++ c) in let g = names-append p b c in let h = names-append p a b in let s = x.at p in omega arith) }
+covers-last a b c x = record {
+  at = λ p. (let f = names-append p a (b ++ c) in let g = names-append p b c in let h = names-append p a b in let s = x.at p in omega arith);
+}
 
 pub covers-last_of_four : {ws : List Written} (a b c d : Occurrences) → Covers d (a ++ (b ++ c)) ws → Covers [] (a ++ (b ++ (c ++ d))) ws
 covers-last_of_four a b c d x = record {
-  at = λ p. (let f = names-append p a (b ++ (c ++ d)) in let g = names-append p b (c ++ d) in let h = names-append p c d in let i = names-append p a (b ++ c) in let j = names-append p b c in let s = x.at p in omega arith);
+  at =
+      λ p. (let f = names-append p a (b ++ (c ++ d)) in
+      let g = names-append p b (c ++ d) in
+      let h = names-append p c d in let i = names-append p a (b ++ c) in let j = names-append p b c in let s = x.at p in omega arith);
 }
 
-pub covers-middle : {l : Occurrences} {ws : List Written} (a : Occurrences) (o : Occurrence) (b : Occurrences) → Covers l (o ∷ (a ++ b)) ws → Covers l (a ++ (o ∷ b)) ws
+pub covers-middle : {l : Occurrences} {ws : List Written} (a : Occurrences) (o : Occurrence) (b : Occurrences) → Covers l (o ∷ (a ++ b)) ws
+    → Covers l (a ++ (o ∷ b)) ws
 covers-middle a o b x = record { at = λ p. (let f = names-append p a (o ∷ b) in let g = names-append p a b in let s = x.at p in omega arith) }
 
 pub covers-assoc : {l : Occurrences} {ws : List Written} (a b c : Occurrences) → Covers l ((a ++ b) ++ c) ws → Covers l (a ++ (b ++ c)) ws
 covers-assoc a b c x = record {
-  at = λ p. (let f = names-append p a (b ++ c) in let g = names-append p b c in let h = names-append p (a ++ b) c in let i = names-append p a b in let s = x.at p in omega arith);
+  at =
+      λ p. (let f = names-append p a (b ++ c) in
+      let g = names-append p b c in let h = names-append p (a ++ b) c in let i = names-append p a b in let s = x.at p in omega arith);
 }
 
 -- labels among the names, or names as labels
@@ -138,9 +157,12 @@ region-counted : (p : Place) (r : Region) (a : Occurrences) → names_at p (with
 region-counted p r a = let h = names-append p a (one ends) in omega arith
 
 pub covers-region : {l a : Occurrences} {ws : List Written} (r : Region) → places_in (begins r) ≡ [] → Covers l a ws → Covers l (within_region r a) ws
-covers-region {l} {a} r e x = record { at = λ p. (let h : count p (places_in (begins r)) ≡ 0 = ap (count p) e in let g = region-counted p r a in let s = x.at p in omega arith) }
+covers-region {l} {a} r e x = record {
+  at = λ p. (let h : count p (places_in (begins r)) ≡ 0 = ap (count p) e in let g = region-counted p r a in let s = x.at p in omega arith);
+}
 
-pub covers-named_region : {l a : Occurrences} {ws : List Written} (r : Region) (i : Identifier) → places_in (begins r) ≡ i.place ∷ [] → Covers l a ws → Covers l (within_region r a) (identifier_written i ∷ ws)
+pub covers-named_region : {l a : Occurrences} {ws : List Written} (r : Region) (i : Identifier) → places_in (begins r) ≡ i.place ∷ [] → Covers l a ws
+    → Covers l (within_region r a) (identifier_written i ∷ ws)
 covers-named_region {l} {a} r i e x = record { at = λ p. (let h = one-place p (begins r) i e in let g = region-counted p r a in let s = x.at p in omega arith) }
 
 -- ---- lists of parts
@@ -154,9 +176,11 @@ covers-each g f w fits all (x ∷ xs) e =
 pub covers-all : {X : Type 0} (g f : X → Occurrences) (w : X → List Written) (fits : X → Bool) → ((x : X) → fits x ≡ true → Covers (g x) (f x) (w x))
     → (xs : OneOrMore X) → all_fit fits xs ≡ true → Covers (in_all g xs) (in_all f xs) (all_written w xs)
 covers-all g f w fits all xs e =
-    covers-both (all xs.first (first_true (fits xs.first) (list_all fits xs.others) e)) (covers-each g f w fits all xs.others (second_true (fits xs.first) (list_all fits xs.others) e))
+    covers-both (all xs.first (first_true (fits xs.first) (list_all fits xs.others) e))
+    (covers-each g f w fits all xs.others (second_true (fits xs.first) (list_all fits xs.others) e))
 
-pub covers-separated : {X : Type 0} (separator : Written) (g f : X → Occurrences) (w : X → List Written) (fits : X → Bool) → ((x : X) → fits x ≡ true → Covers (g x) (f x) (w x))
+pub covers-separated : {X : Type 0} (separator : Written) (g f : X → Occurrences) (w : X → List Written) (fits : X → Bool)
+    → ((x : X) → fits x ≡ true → Covers (g x) (f x) (w x))
     → (xs : OneOrMore X) → all_fit fits xs ≡ true → Covers (in_all g xs) (in_all f xs) (separated separator w xs)
 covers-separated separator g f w fits all xs e =
     covers-both (all xs.first (first_true (fits xs.first) (list_all fits xs.others) e))
@@ -168,7 +192,8 @@ covers-there g f w fits all None e = covers-none []
 covers-there g f w fits all (Some x) e = all x e
 
 -- the same of parts that have no labels, and that any shape has
-pub covers-flat : {X : Type 0} (f : X → Occurrences) (w : X → List Written) → ((x : X) → Covers [] (f x) (w x)) → (xs : List X) → Covers [] (flat_map f xs) (flat_map w xs)
+pub covers-flat : {X : Type 0} (f : X → Occurrences) (w : X → List Written) → ((x : X) → Covers [] (f x) (w x)) → (xs : List X)
+    → Covers [] (flat_map f xs) (flat_map w xs)
 covers-flat f w all [] = covers-none []
 covers-flat f w all (x ∷ xs) = covers-both (all x) (covers-flat f w all xs)
 
@@ -176,14 +201,17 @@ pub covers-in_all : {X : Type 0} (separator : Written) (f : X → Occurrences) (
     → (xs : OneOrMore X) → Covers [] (in_all f xs) (separated separator w xs)
 covers-in_all separator f w all xs = covers-both (all xs.first) (covers-flat f (behind separator w) (λ x. covers-skip separator (all x)) xs.others)
 
-pub covers-all_of : {X : Type 0} (f : X → Occurrences) (w : X → List Written) → ((x : X) → Covers [] (f x) (w x)) → (xs : OneOrMore X) → Covers [] (in_all f xs) (all_written w xs)
+pub covers-all_of : {X : Type 0} (f : X → Occurrences) (w : X → List Written) → ((x : X) → Covers [] (f x) (w x)) → (xs : OneOrMore X)
+    → Covers [] (in_all f xs) (all_written w xs)
 covers-all_of f w all xs = covers-both (all xs.first) (covers-flat f w all xs.others)
 
-pub covers-optional : {X : Type 0} (f : X → Occurrences) (w : X → List Written) → ((x : X) → Covers [] (f x) (w x)) → (x : Option X) → Covers [] (if_there f x) (optional w x)
+pub covers-optional : {X : Type 0} (f : X → Occurrences) (w : X → List Written) → ((x : X) → Covers [] (f x) (w x)) → (x : Option X)
+    → Covers [] (if_there f x) (optional w x)
 covers-optional f w all None = covers-none []
 covers-optional f w all (Some x) = all x
 
-pub covers-enclosed : {X : Type 0} (opening separator : Written) (closing : List Written) (f : X → Occurrences) (w : X → List Written) → ((x : X) → Covers [] (f x) (w x))
+pub covers-enclosed : {X : Type 0} (opening separator : Written) (closing : List Written) (f : X → Occurrences) (w : X → List Written)
+    → ((x : X) → Covers [] (f x) (w x))
     → (xs : List X) → Covers [] (flat_map f xs) (enclosed opening separator closing w xs)
 covers-enclosed opening separator closing f w all [] = covers-none []
 covers-enclosed opening separator closing f w all (x ∷ xs) =
@@ -192,14 +220,17 @@ covers-enclosed opening separator closing f w all (x ∷ xs) =
 -- ---- identifiers
 
 pub covers-hides : {l a : Occurrences} {ws : List Written} (names : OneOrMore Identifier) → Covers l a ws → Covers l (hides_all names ++ a) ws
-covers-hides {l} {a} names x = record { at = λ p. (let h = hidden p names.others in let g = names-append p (hides_all names) a in let s = x.at p in omega arith) }
+covers-hides {l} {a} names x = record {
+  at = λ p. (let h = hidden p names.others in let g = names-append p (hides_all names) a in let s = x.at p in omega arith);
+}
   where
     hidden : (p : Place) (is : List Identifier) → names_at p (flat_map (λ i. one (hides i)) is) ≡ 0
     hidden p [] = refl
     hidden p (i ∷ is) = let h = hidden p is in omega arith
 
 pub covers-declares : (what : Declared) (names : OneOrMore Identifier) → Covers [] (declares_all what names) (identifiers_written names)
-covers-declares what names = covers-in_all (delimiter (codes ",")) (λ i. one (declares i what)) one_identifier (λ i. covers-name i (declares i what) refl (covers-none [])) names
+covers-declares what names =
+    covers-in_all (delimiter (codes ",")) (λ i. one (declares i what)) one_identifier (λ i. covers-name i (declares i what) refl (covers-none [])) names
 
 -- ---- lists of parts that have no labels
 

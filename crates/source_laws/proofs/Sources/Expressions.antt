@@ -8,7 +8,8 @@ use Rattle.ada_tree.specs.declared.expressions.Expression.TheFolds.{ind-Expressi
 use Rattle.ada_tree.specs.declared.expressions.ExpressionForm.{ExpressionForm}
 use Rattle.ada_tree.specs.declared.expressions.ExpressionForm.TheVariants as form
 use Rattle.ada_tree.specs.Written.{Written, delimiter_at, behind, optional, enclosed}
-use Rattle.ada_tree.specs.SpellingExpressions.{logical_written, adding_text, multiplying_written, designator_written, formal_written, addend_written, multiplied_written, form_written, expression_written}
+use Rattle.ada_tree.specs.SpellingExpressions.{logical_written, adding_text, multiplying_written, designator_written}
+use Rattle.ada_tree.specs.SpellingExpressions.{formal_written, addend_written, multiplied_written, form_written, expression_written}
 use Rattle.ada_tree.proofs.ExpressionFolds.{expression_is_written}
 use Rattle.ada_regions.specs.Occurrences.{Occurrences, mentions}
 use Rattle.ada_regions.specs.NamesInExpressions.{names_in_form, names_in_expression}
@@ -21,7 +22,8 @@ covers-mapped : {X Y : Type 0} (f : Y → Occurrences) (w : Y → List Written) 
 covers-mapped f w g all [] = covers-none []
 covers-mapped f w g all (x ∷ xs) = covers-both (all x) (covers-mapped f w g all xs)
 
-enclosed-mapped : {X Y : Type 0} (opening separator : Written) (closing : List Written) (f : Y → Occurrences) (w : Y → List Written) (g : X → Y) → ((x : X) → Covers [] (f (g x)) (w (g x)))
+enclosed-mapped : {X Y : Type 0} (opening separator : Written) (closing : List Written) (f : Y → Occurrences) (w : Y → List Written) (g : X → Y)
+    → ((x : X) → Covers [] (f (g x)) (w (g x)))
     → (xs : List X) → Covers [] (flat_map f (map g xs)) (enclosed opening separator closing w (map g xs))
 enclosed-mapped opening separator closing f w g all [] = covers-none []
 enclosed-mapped opening separator closing f w g all (x ∷ xs) =
@@ -30,7 +32,9 @@ enclosed-mapped opening separator closing f w g all (x ∷ xs) =
 -- one layer, whose expressions are those that g gives
 module _ (E : Type 0) (g : E → Expression) (all : (e : E) → Covers [] (names_in_expression (g e)) (expression_written (g e))) where
   abbrev FormCovered : ExpressionForm E → Type 0
-  FormCovered x = Covers [] (names_in_form names_in_expression (map-Expression E Expression g (record { form = x })).form) (form_written expression_written (map-Expression E Expression g (record { form = x })).form)
+  FormCovered x =
+      Covers [] (names_in_form names_in_expression (map-Expression E Expression g (record { form = x })).form)
+      (form_written expression_written (map-Expression E Expression g (record { form = x })).form)
 
   covers-form : (x : ExpressionForm E) → FormCovered x
   covers-form (form.Logical operator first others) =
@@ -38,10 +42,14 @@ module _ (E : Type 0) (g : E → Expression) (all : (e : E) → Covers [] (names
       (covers-mapped _ _ _ (λ x. covers-past (logical_written operator x.place) (all x.relation)) others.others))
   covers-form (form.Relational left place operator right) = covers-then (all left) (covers-skip _ (all right))
   covers-form (form.Adding first others) =
-      covers-then (all first) (covers-both (covers-skip (delimiter_at others.first.place (adding_text others.first.operator)) (all others.first.term)) (covers-mapped _ (addend_written expression_written) _ (λ x. covers-skip (delimiter_at x.place (adding_text x.operator)) (all x.term)) others.others))
+      covers-then (all first)
+      (covers-both (covers-skip (delimiter_at others.first.place (adding_text others.first.operator)) (all others.first.term))
+      (covers-mapped _ (addend_written expression_written) _ (λ x. covers-skip (delimiter_at x.place (adding_text x.operator)) (all x.term)) others.others))
   covers-form (form.Signed place sign operand) = covers-skip _ (all operand)
   covers-form (form.Multiplying first others) =
-      covers-then (all first) (covers-both (covers-skip (multiplying_written others.first.operator others.first.place) (all others.first.factor)) (covers-mapped _ (multiplied_written expression_written) _ (λ x. covers-skip (multiplying_written x.operator x.place) (all x.factor)) others.others))
+      covers-then (all first)
+      (covers-both (covers-skip (multiplying_written others.first.operator others.first.place) (all others.first.factor))
+      (covers-mapped _ (multiplied_written expression_written) _ (λ x. covers-skip (multiplying_written x.operator x.place) (all x.factor)) others.others))
   covers-form (form.Highest place operator operand) = covers-skip _ (all operand)
   covers-form (form.Number place literal) = covers-none _
   covers-form (form.Text place text) = covers-none _

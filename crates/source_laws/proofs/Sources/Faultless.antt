@@ -1,5 +1,6 @@
 -- What a source without faults of legality has found: each declaration of a unit has one body, and the table knows it.
-use Rattle.std.proofs.Common.{◌≡◌, ℕ, ◌+◌, ◌≤◌, suc, Bool, true, false, not, cond, ◌&&◌, ◌||◌, List, [], ◌∷◌, ◌++◌, length, take, filter, None, eqb, eqb-true, refl, ap, ◌∙◌, arith}
+use Rattle.std.proofs.Common.{◌≡◌, ℕ, ◌+◌, ◌≤◌, suc, Bool, true, false, not, cond, ◌&&◌, ◌||◌, List, []}
+use Rattle.std.proofs.Common.{◌∷◌, ◌++◌, length, take, filter, None, eqb, eqb-true, refl, ap, ◌∙◌, arith}
 use Rattle.std.specs.List.{flat_map, list_any}
 use Rattle.std.proofs.lemmas.Bool.{and_parts}
 use Rattle.ann_base.specs.declared.places.Place.{Place}
@@ -12,7 +13,8 @@ use Rattle.ada_legality.specs.declared.findings.Finding.{Finding}
 use Rattle.ada_legality.specs.declared.findings.Finding.TheVariants as finding
 use Rattle.ada_legality.specs.declared.rules.Rule.TheVariants as rule
 use Rattle.ada_legality.specs.Findings.{Found, broken_if}
-use Rattle.ada_legality.specs.Faults.{comes_before, same_fault, fault_put, in_order_of_text, fault_in, faults_in, found_of, faults_where, faults_of, first_fault_of}
+use Rattle.ada_legality.specs.Faults.{comes_before, same_fault, fault_put, in_order_of_text, fault_in}
+use Rattle.ada_legality.specs.Faults.{faults_in, found_of, faults_where, faults_of, first_fault_of}
 use Rattle.ada_legality.specs.WholeSource.{same_kind, is_body_of, bodies_of, has_known_body, is_other_profile_of, is_uncompleted, judged_beside, judged_from}
 use Rattle.ada_regions.specs.declared.table.Names.{Names}
 use Rattle.ada_regions.specs.NamesInUnits.{names_in_unit}
@@ -72,7 +74,9 @@ unfolding bodies_of
 completed-worth kind e [] = refl
 completed-worth kind e (finding.Completed other f ∷ fs) = go (same_kind kind other && eqb e f) (completed-worth kind e fs)
   where
-    go : (t : Bool) → worth (completed_weights kind e) fs ≡ length (filter (is_body_of kind e) fs) → one_if t + worth (completed_weights kind e) fs ≡ length (cond t (finding.Completed other f ∷ filter (is_body_of kind e) fs) (filter (is_body_of kind e) fs))
+    go : (t : Bool) → worth (completed_weights kind e) fs ≡ length (filter (is_body_of kind e) fs)
+        → one_if t + worth (completed_weights kind e) fs
+        ≡ length (cond t (finding.Completed other f ∷ filter (is_body_of kind e) fs) (filter (is_body_of kind e) fs))
     go true h = omega arith
     go false h = omega arith
 completed-worth kind e (_ ∷ fs) = let h = completed-worth kind e fs in omega arith
@@ -102,7 +106,8 @@ module _ (n : Names) (all : Found) (kind : BodyKind) (e : ℕ) where
       go : (t : Bool) → (same_kind kind other && eqb e g) ≡ t → 1 ≤ one_if t + worth (declared_weights kind e) rest → is_uncompleted n all kind e ≡ false
       go true q p =
           let both = and_parts (same_kind kind other) (eqb e g) q in
-          ap (λ k. is_uncompleted n all k e) (same-kinds kind other both.0) ∙ (ap (is_uncompleted n all other) (eqb-true e g both.1) ∙ not-broken (is_uncompleted n all other g) place none)
+          ap (λ k. is_uncompleted n all k e) (same-kinds kind other both.0)
+          ∙ (ap (is_uncompleted n all other) (eqb-true e g both.1) ∙ not-broken (is_uncompleted n all other g) place none)
       go false q p = more (omega arith)
   judged-one _ at rest none more positive = more (omega arith)
 
@@ -117,10 +122,12 @@ module _ (n : Names) (all : Found) (kind : BodyKind) (e : ℕ) where
   unfolding is_uncompleted
   uncompleted-parts none = go (has_known_body n kind e) (eqb (bodies_of all kind e) 1) refl none
     where
-      go : (a b : Bool) → eqb (bodies_of all kind e) 1 ≡ b → (not (a && b) || list_any (is_other_profile_of kind e) all) ≡ false → (a ≡ true) × (bodies_of all kind e ≡ 1)
+      go : (a b : Bool) → eqb (bodies_of all kind e) 1 ≡ b → (not (a && b) || list_any (is_other_profile_of kind e) all) ≡ false
+          → (a ≡ true) × (bodies_of all kind e ≡ 1)
       go true true q r = (refl, eqb-true (bodies_of all kind e) 1 q)
       go true false q r = cc
       go false b q r = cc
 
-pub declared-once : (n : Names) (all : Found) (kind : BodyKind) (e : ℕ) → faults_in (judged_from n all 0 all) ≡ [] → 1 ≤ worth (declared_weights kind e) all → (has_known_body n kind e ≡ true) × (bodies_of all kind e ≡ 1)
+pub declared-once : (n : Names) (all : Found) (kind : BodyKind) (e : ℕ) → faults_in (judged_from n all 0 all) ≡ [] → 1 ≤ worth (declared_weights kind e) all
+    → (has_known_body n kind e ≡ true) × (bodies_of all kind e ≡ 1)
 declared-once n all kind e none positive = uncompleted-parts n all kind e (judged-all n all kind e all 0 none positive)

@@ -35,10 +35,15 @@ use Rattle.ada_regions.specs.declared.entities.UnitKind.TheVariants as unit
 use Rattle.ada_regions.specs.declared.table.Names.{Names}
 use Rattle.ada_regions.specs.Names.{entity_denoted}
 use Rattle.ada_regions.specs.Completions.{is_unit}
-use Rattle.ada_regions.specs.Occurrences.{Occurrence, Occurrences, Declared, Region, an_object, a_component, a_parameter, an_enumeration, a_literal, an_array, a_derived_type, a_subtype, a_subprogram, an_entry, a_task, a_protected, a_profile, a_record, task_body, protected_body, private_from_here, begins, ends, hides, declares, mentions, in_all, if_there, one, within_region, hides_all, declares_all}
+use Rattle.ada_regions.specs.Occurrences.{Occurrence, Occurrences, Declared, Region, an_object, a_component, a_parameter, an_enumeration}
+use Rattle.ada_regions.specs.Occurrences.{a_literal, an_array, a_derived_type, a_subtype, a_subprogram, an_entry, a_task, a_protected}
+use Rattle.ada_regions.specs.Occurrences.{a_profile, a_record, task_body, protected_body, private_from_here, begins, ends, hides}
+use Rattle.ada_regions.specs.Occurrences.{declares, mentions, in_all, if_there, one, within_region, hides_all, declares_all}
 use Rattle.ada_regions.specs.NamesInExpressions.{names_in_form, names_in_argument, names_in_arguments, names_in_expression}
 use Rattle.ada_regions.specs.NamesInStatements.{names_in_constraint, names_in_indication, names_in_parameter, names_in_parameters}
-use Rattle.ada_regions.specs.NamesInDeclarations.{names_in_object, names_in_component, names_in_definition, names_in_subtype, names_in_aspect, names_in_aspects, names_in_profile, names_in_specification, names_in_entry, names_in_task_definition, names_in_operation, names_in_private}
+use Rattle.ada_regions.specs.NamesInDeclarations.{names_in_object, names_in_component, names_in_definition, names_in_subtype}
+use Rattle.ada_regions.specs.NamesInDeclarations.{names_in_aspect, names_in_aspects, names_in_profile, names_in_specification}
+use Rattle.ada_regions.specs.NamesInDeclarations.{names_in_entry, names_in_task_definition, names_in_operation, names_in_private}
 use Rattle.ada_regions.proofs.ExpressionFolds.{expression_tells}
 
 -- ---- what each finding is worth: a body of a unit, the declaration of one, a rule that is broken
@@ -143,11 +148,13 @@ quiet-mapped f g all (x ∷ xs) = quiet-append (all x) (quiet-mapped f g all xs)
 
 module _ (E : Type 0) (g : E → Expression) (all : (e : E) → Quiet (names_in_expression (g e))) where
   quiet-form : (x : ExpressionForm E) → Quiet (names_in_form names_in_expression (map-Expression E Expression g (record { form = x })).form)
-  quiet-form (form.Logical operator first others) = quiet-append (all first) (quiet-append (all others.first.relation) (quiet-mapped _ _ (λ x. all x.relation) others.others))
+  quiet-form (form.Logical operator first others) =
+      quiet-append (all first) (quiet-append (all others.first.relation) (quiet-mapped _ _ (λ x. all x.relation) others.others))
   quiet-form (form.Relational left place operator right) = quiet-append (all left) (all right)
   quiet-form (form.Adding first others) = quiet-append (all first) (quiet-append (all others.first.term) (quiet-mapped _ _ (λ x. all x.term) others.others))
   quiet-form (form.Signed place sign operand) = all operand
-  quiet-form (form.Multiplying first others) = quiet-append (all first) (quiet-append (all others.first.factor) (quiet-mapped _ _ (λ x. all x.factor) others.others))
+  quiet-form (form.Multiplying first others) =
+      quiet-append (all first) (quiet-append (all others.first.factor) (quiet-mapped _ _ (λ x. all x.factor) others.others))
   quiet-form (form.Highest place operator operand) = all operand
   quiet-form (form.Number place literal) = quiet-none
   quiet-form (form.Text place text) = quiet-none
@@ -160,7 +167,8 @@ LayerQuiet z = Quiet (names_in_form names_in_expression z.form)
 
 pub quiet-expression : (e : Expression) → Quiet (names_in_expression e)
 quiet-expression = ind-Expression (λ e. Quiet (names_in_expression e)) (λ x y is.
-    subst (λ os. Quiet os) (sym (expression_tells (roll-Expression x))) (subst LayerQuiet (is ∙ sym (out-roll-Expression x)) (quiet-form _ (λ p. p.0) (λ p. p.1) y.form)))
+    subst (λ os. Quiet os) (sym (expression_tells (roll-Expression x)))
+    (subst LayerQuiet (is ∙ sym (out-roll-Expression x)) (quiet-form _ (λ p. p.0) (λ p. p.1) y.form)))
 
 pub quiet-optional : (e : Option Expression) → Quiet (if_there names_in_expression e)
 quiet-optional e = quiet-if_there names_in_expression quiet-expression e
@@ -186,11 +194,13 @@ quiet-parameters with_cells parameters = quiet-flat (names_in_parameter with_cel
 
 pub quiet-object : (o : ObjectDeclaration) → Quiet (names_in_object o)
 quiet-object o =
-    quiet-append (quiet-hides o.names) (quiet-append (quiet-indication o.subtype) (quiet-append (quiet-optional o.initial) (quiet-declares (an_object o) (λ i w n. refl) o.names)))
+    quiet-append (quiet-hides o.names)
+    (quiet-append (quiet-indication o.subtype) (quiet-append (quiet-optional o.initial) (quiet-declares (an_object o) (λ i w n. refl) o.names)))
 
 quiet-component : (c : Component) → Quiet (names_in_component c)
 quiet-component c =
-    quiet-append (quiet-hides c.names) (quiet-append (quiet-indication c.subtype) (quiet-append (quiet-optional c.initial) (quiet-declares (a_component c) (λ i w n. refl) c.names)))
+    quiet-append (quiet-hides c.names)
+    (quiet-append (quiet-indication c.subtype) (quiet-append (quiet-optional c.initial) (quiet-declares (a_component c) (λ i w n. refl) c.names)))
 
 pub quiet-definition : (name : Identifier) (d : TypeDefinition) → Quiet (names_in_definition name d)
 quiet-definition name (definition.Enumeration literals) =
@@ -200,25 +210,31 @@ quiet-definition name (definition.Array low high component) =
     (quiet-one (declares name (an_array low high component)) (λ w n. refl)))))
 quiet-definition name (definition.Derived parent components) =
     quiet-still (hides name) (λ w n. refl) (quiet-still (mentions parent) (λ w n. refl) (quiet-still (declares name (a_derived_type parent)) (λ w n. refl)
-    (quiet-region (a_record name) (λ w n. refl) (quiet-if_there (in_all names_in_component) (λ cs. quiet-in_all names_in_component quiet-component cs) components))))
+    (quiet-region (a_record name) (λ w n. refl)
+    (quiet-if_there (in_all names_in_component) (λ cs. quiet-in_all names_in_component quiet-component cs) components))))
 
 pub quiet-subtype : (s : SubtypeDeclaration) → Quiet (names_in_subtype s)
-quiet-subtype s = quiet-still (hides s.name) (λ w n. refl) (quiet-append (quiet-indication s.subtype) (quiet-one (declares s.name (a_subtype s.subtype)) (λ w n. refl)))
+quiet-subtype s =
+    quiet-still (hides s.name) (λ w n. refl) (quiet-append (quiet-indication s.subtype) (quiet-one (declares s.name (a_subtype s.subtype)) (λ w n. refl)))
 
 pub quiet-aspects : (aspects : List Aspect) → Quiet (names_in_aspects aspects)
 quiet-aspects aspects = quiet-flat names_in_aspect (λ a. quiet-optional a.value) aspects
 
 pub quiet-profile : (with_cells : Bool) (s : SubprogramSpecification) → Quiet (names_in_profile with_cells s)
 quiet-profile with_cells s =
-    quiet-append (quiet-parameters with_cells s.parameters) (quiet-append (quiet-if_there names_in_indication quiet-indication s.result) (quiet-aspects s.aspects))
+    quiet-append (quiet-parameters with_cells s.parameters)
+    (quiet-append (quiet-if_there names_in_indication quiet-indication s.result) (quiet-aspects s.aspects))
 
 pub quiet-specification : (s : SubprogramSpecification) → Quiet (names_in_specification s)
 quiet-specification s =
-    quiet-still (hides s.name) (λ w n. refl) (quiet-append (quiet-region a_profile (λ w n. refl) (quiet-profile false s)) (quiet-one (declares s.name (a_subprogram s)) (λ w n. refl)))
+    quiet-still (hides s.name) (λ w n. refl)
+    (quiet-append (quiet-region a_profile (λ w n. refl) (quiet-profile false s)) (quiet-one (declares s.name (a_subprogram s)) (λ w n. refl)))
 
 quiet-entry : (e : EntryDeclaration) → Quiet (names_in_entry e)
 quiet-entry e =
-    quiet-still (hides e.name) (λ w n. refl) (quiet-append (quiet-region a_profile (λ w n. refl) (quiet-parameters false e.parameters)) (quiet-one (declares e.name (an_entry e.parameters)) (λ w n. refl)))
+    quiet-still (hides e.name) (λ w n. refl)
+    (quiet-append (quiet-region a_profile (λ w n. refl) (quiet-parameters false e.parameters))
+    (quiet-one (declares e.name (an_entry e.parameters)) (λ w n. refl)))
 
 pub quiet-task_definition : (d : TaskDefinition) → Quiet (names_in_task_definition d)
 quiet-task_definition d = quiet-flat names_in_entry quiet-entry d.entries

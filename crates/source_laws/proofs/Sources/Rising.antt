@@ -1,5 +1,6 @@
 -- The tokens of a source stand at places that rise, so each stands at a place of its own.
-use Rattle.std.proofs.Common.{◌≡◌, ◌⊎◌, inl, inr, ℕ, zero, suc, ◌+◌, ◌-◌, ◌≤◌, ◌<◌, Bool, true, false, cond, List, [], ◌∷◌, length, Result, Ok, Err, refl, sym, ap, subst, ◌∙◌, arith}
+use Rattle.std.proofs.Common.{◌≡◌, ◌⊎◌, inl, inr, ℕ, zero, suc, ◌+◌, ◌-◌, ◌≤◌, ◌<◌, Bool, true, false, cond}
+use Rattle.std.proofs.Common.{List, [], ◌∷◌, length, Result, Ok, Err, refl, sym, ap, subst, ◌∙◌, arith}
 use Rattle.std.specs.Prelude.{map, nat_lt, ◌==◌}
 use Rattle.ann_base.specs.Results.{◌>>=◌}
 use Rattle.ann_base.specs.declared.places.Place.{Place}
@@ -35,7 +36,10 @@ before-apart a b (inr x) e = let h : a.column ≡ b.column = ap (λ p. p.column)
 behind-byte : (spot : Spot) (b : ℕ) → Before spot.place (behind spot b).place
 behind-byte spot b = go (b == 10)
   where
-    go : (t : Bool) → Before spot.place (cond {A = Spot} t (record { offset = spot.offset + 1; place = record { line = spot.place.line + 1; column = 1 } }) (record { offset = spot.offset + 1; place = record { line = spot.place.line; column = spot.place.column + 1 } })).place
+    go : (t : Bool)
+        → Before spot.place
+        (cond {A = Spot} t (record { offset = spot.offset + 1; place = record { line = spot.place.line + 1; column = 1 } })
+        (record { offset = spot.offset + 1; place = record { line = spot.place.line; column = spot.place.column + 1 } })).place
     go true = inl (omega arith)
     go false = inr (refl, omega arith)
 
@@ -98,13 +102,15 @@ from-further : (p q : Place) → Before p q → (ts : List Token) → From q ts 
 from-further p q less [] from = tt
 from-further p q less (t ∷ ts) from = let all = from-behind p q less (t ∷ ts) from in (inr all.0.0, from.1, from.2)
 
-with-found : (p q : Place) → Before p q → (found : List Token) → Found p found → (r : Result (List Token) LexFault) → Answered (From q) r → Answered (From p) (with_front found r)
+with-found : (p q : Place) → Before p q → (found : List Token) → Found p found → (r : Result (List Token) LexFault) → Answered (From q) r
+    → Answered (From p) (with_front found r)
 with-found p q less found here (Err fault) from = tt
 with-found p q less [] here (Ok ts) from = from-further p q less ts from
 with-found p q less (t ∷ []) here (Ok ts) from = let all = from-behind p q less ts from in (inl here, subst (λ x. AllBehind x ts) (sym here) all.0, all.1)
 with-found p q less (t ∷ u ∷ us) here (Ok ts) from = absurd here
 
-piece-found : (p q : Place) → Before p q → (piece : Result (List Token × ℕ) LexFault) → PieceAt p piece → (next : ℕ → Result (List Token) LexFault) → ((k : ℕ) → Answered (From q) (next k))
+piece-found : (p q : Place) → Before p q → (piece : Result (List Token × ℕ) LexFault) → PieceAt p piece → (next : ℕ → Result (List Token) LexFault)
+    → ((k : ℕ) → Answered (From q) (next k))
     → Answered (From p) (piece >>= (λ found. with_front found.0 (next (found.1 - 1))))
 piece-found p q less (Ok piece) here next from = with-found p q less piece.0 here (next (piece.1 - 1)) (from (piece.1 - 1))
 piece-found p q less (Err fault) here next from = tt
@@ -117,8 +123,10 @@ read-from : (bytes : List ℕ) (skip : ℕ) (spot : Spot) → Answered (From spo
 unfolding tokens_from
 read-from [] skip spot = tt
 read-from (b ∷ rest) zero spot =
-    piece-found spot.place (behind spot b).place (behind-byte spot b) (piece_at spot (b ∷ rest)) (piece-stands spot b rest) (λ k. tokens_from rest k (behind spot b)) (λ k. read-from rest k (behind spot b))
-read-from (b ∷ rest) (suc skip) spot = further spot.place (behind spot b).place (behind-byte spot b) (tokens_from rest skip (behind spot b)) (read-from rest skip (behind spot b))
+    piece-found spot.place (behind spot b).place (behind-byte spot b) (piece_at spot (b ∷ rest)) (piece-stands spot b rest)
+    (λ k. tokens_from rest k (behind spot b)) (λ k. read-from rest k (behind spot b))
+read-from (b ∷ rest) (suc skip) spot =
+    further spot.place (behind spot b).place (behind-byte spot b) (tokens_from rest skip (behind spot b)) (read-from rest skip (behind spot b))
 
 from-rises : (p : Place) (ts : List Token) → From p ts → Rising ts
 from-rises p [] from = tt

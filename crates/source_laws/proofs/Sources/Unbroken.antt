@@ -1,5 +1,6 @@
 -- In a source that breaks no rule of legality the table knows the unit of each body, so each body completes a unit.
-use Rattle.std.proofs.Common.{◌≡◌, inl, inr, ℕ, ◌+◌, ◌≤◌, Bool, true, false, cond, ◌&&◌, leb, le-leb, [], ◌∷◌, Option, Some, None, eqb, eq-eqb, refl, sym, ap, subst, ◌∙◌, arith}
+use Rattle.std.proofs.Common.{◌≡◌, inl, inr, ℕ, ◌+◌, ◌≤◌, Bool, true, false, cond, ◌&&◌, leb, le-leb, []}
+use Rattle.std.proofs.Common.{◌∷◌, Option, Some, None, eqb, eq-eqb, refl, sym, ap, subst, ◌∙◌, arith}
 use Rattle.ada_tree.specs.declared.names.Identifier.{Identifier}
 use Rattle.ada_tree.specs.declared.units.Unit.{Unit as Tree}
 use Rattle.ada_tree.specs.Shape.{is_shaped, unit_fits}
@@ -31,14 +32,16 @@ use Rattle.source_laws.proofs.Names.Lawful.{table_at_the_end}
 use Rattle.source_laws.proofs.Names.Naming.{names_by_position}
 use Rattle.source_laws.proofs.Names.Texts.{IsText}
 use Rattle.source_laws.proofs.Names.UnitTexts.{unit-text}
-use Rattle.source_laws.specs.Bodies.{body_named, is_same_kind, one_if, is_entity, denotes_as_body, bodies_denoting, is_known_unit, is_known_body, are_known_bodies}
+use Rattle.source_laws.specs.Bodies.{body_named, is_same_kind, one_if, is_entity, denotes_as_body}
+use Rattle.source_laws.specs.Bodies.{bodies_denoting, is_known_unit, is_known_body, are_known_bodies}
 use Rattle.source_laws.specs.SourceLaws.{UnbrokenBodiesComplete, UnbrokenNamesByPosition}
 use Rattle.source_laws.proofs.Sources.Apart.{names_stand_apart}
 use Rattle.source_laws.proofs.Sources.KnownBodies.{bodies_complete_where_known, among-place}
 use Rattle.source_laws.proofs.Sources.Quiet.{Weights, worth, if_denoted, if_no_unit, body_tells, declared_tells, tells, told}
 use Rattle.source_laws.proofs.Sources.ToldUnits.{tells-unit}
 use Rattle.source_laws.proofs.Sources.Founded.{unit-founded}
-use Rattle.source_laws.proofs.Sources.Faultless.{none-found, broken_weights, is_this, completed_weights, declared_weights, broken-worth, completed-worth, declared-once}
+use Rattle.source_laws.proofs.Sources.Faultless.{none-found, broken_weights, is_this, completed_weights}
+use Rattle.source_laws.proofs.Sources.Faultless.{declared_weights, broken-worth, completed-worth, declared-once}
 use Rattle.image_laws.proofs.Forms.Nothing.{none-of}
 
 abbrev of_unit : UnitKind → BodyKind
@@ -68,10 +71,12 @@ told-at w n o c before s = told-there w n (o ∷ c) before s
 -- ---- what a body and a declaration tell
 
 -- one that is worth nothing denotes a unit of its kind
-unit-denoted : (n : Names) (kind : UnitKind) (of_kind : BodyKind) (i : Identifier) → body_tells broken_weights n kind of_kind i ≤ 0 → (e : ℕ) × (entity_denoted n i.place ≡ Some e) × (is_unit kind n e ≡ true)
+unit-denoted : (n : Names) (kind : UnitKind) (of_kind : BodyKind) (i : Identifier) → body_tells broken_weights n kind of_kind i ≤ 0
+    → (e : ℕ) × (entity_denoted n i.place ≡ Some e) × (is_unit kind n e ≡ true)
 unit-denoted n kind of_kind i none = go (entity_denoted n i.place) refl none
   where
-    go : (x : Option ℕ) → entity_denoted n i.place ≡ x → if_no_unit 1 n kind x + if_denoted (λ e. 0) x ≤ 0 → (e : ℕ) × (entity_denoted n i.place ≡ Some e) × (is_unit kind n e ≡ true)
+    go : (x : Option ℕ) → entity_denoted n i.place ≡ x → if_no_unit 1 n kind x + if_denoted (λ e. 0) x ≤ 0
+        → (e : ℕ) × (entity_denoted n i.place ≡ Some e) × (is_unit kind n e ≡ true)
     go None d none = absurd (omega arith)
     go (Some e) d none = (e, d, is-so (is_unit kind n e) none)
       where
@@ -85,7 +90,8 @@ kinds-agree unit.Protected unit.Protected = refl
 kinds-agree unit.Task unit.Protected = refl
 kinds-agree unit.Protected unit.Task = refl
 
-one-body : (n : Names) (kind other : UnitKind) (e : ℕ) (i : Identifier) → denotes_as_body n kind e (Some (other, i)) ≤ body_tells (completed_weights (of_unit kind) e) n other (of_unit other) i
+one-body : (n : Names) (kind other : UnitKind) (e : ℕ) (i : Identifier)
+    → denotes_as_body n kind e (Some (other, i)) ≤ body_tells (completed_weights (of_unit kind) e) n other (of_unit other) i
 one-body n kind other e i = go (entity_denoted n i.place)
   where
     none-there : (t : Bool) → one_if (t && false) ≤ 0
@@ -94,7 +100,10 @@ one-body n kind other e i = go (entity_denoted n i.place)
 
     go : (x : Option ℕ) → one_if (is_same_kind kind other && is_entity e x) ≤ if_no_unit 0 n other x + if_denoted (is_this (of_unit kind) e (of_unit other)) x
     go None = let h = none-there (is_same_kind kind other) in omega arith
-    go (Some f) = let h : one_if (is_same_kind kind other && eqb e f) ≡ is_this (of_unit kind) e (of_unit other) f = ap (λ t. one_if (t && eqb e f)) (kinds-agree kind other) in omega arith
+    go (Some f) =
+        let h : one_if (is_same_kind kind other && eqb e f) ≡ is_this (of_unit kind) e (of_unit other) f =
+        ap (λ t. one_if (t && eqb e f)) (kinds-agree kind other) in
+        omega arith
 
 body-weight : (n : Names) (kind : UnitKind) (e : ℕ) (o : Occurrence) → denotes_as_body n kind e (body_named o) ≤ tells (completed_weights (of_unit kind) e) n o
 body-weight n kind e (begins (task_body i place)) = one-body n kind unit.Task e i
@@ -109,10 +118,13 @@ this-one : (kind : BodyKind) (e : ℕ) → same_kind kind kind ≡ true → is_t
 this-one kind e same = ap (λ t. one_if (t && eqb e e)) same ∙ ap one_if (eq-eqb e e refl)
 
 -- the declaration of a unit of this kind
-declared-weight : (n : Names) (kind : UnitKind) (e : ℕ) (j : Identifier) (what : Declared) → is_unit_of kind (declares j what) ≡ true → entity_denoted n j.place ≡ Some e
+declared-weight : (n : Names) (kind : UnitKind) (e : ℕ) (j : Identifier) (what : Declared) → is_unit_of kind (declares j what) ≡ true
+    → entity_denoted n j.place ≡ Some e
     → declared_tells (declared_weights (of_unit kind) e) n j what ≡ 1
-declared-weight n unit.Task e j (a_task is_type aspects) is denoted = ap (if_denoted (is_this completing.Task e completing.Task)) denoted ∙ this-one completing.Task e refl
-declared-weight n unit.Protected e j (a_protected is_type aspects) is denoted = ap (if_denoted (is_this completing.Protected e completing.Protected)) denoted ∙ this-one completing.Protected e refl
+declared-weight n unit.Task e j (a_task is_type aspects) is denoted =
+    ap (if_denoted (is_this completing.Task e completing.Task)) denoted ∙ this-one completing.Task e refl
+declared-weight n unit.Protected e j (a_protected is_type aspects) is denoted =
+    ap (if_denoted (is_this completing.Protected e completing.Protected)) denoted ∙ this-one completing.Protected e refl
 declared-weight n unit.Task e j (a_protected is_type aspects) is denoted = cc
 declared-weight n unit.Protected e j (a_task is_type aspects) is denoted = cc
 declared-weight n kind e j _ is denoted = cc
@@ -134,33 +146,43 @@ pub record Sound (last : ℕ) (end : Before) (found : Found) : Type 0 where
 
 module _ (last : ℕ) (end : Before) (found : Found) (s : Sound last end found) where
   -- a body denotes a unit of its kind
-  body-denotes : (o : Occurrence) (c : Before) (kind : UnitKind) (i : Identifier) → Stands (o ∷ c) end → tells broken_weights (table_at last end) o ≡ body_tells broken_weights (table_at last end) kind (of_unit kind) i
+  body-denotes : (o : Occurrence) (c : Before) (kind : UnitKind) (i : Identifier) → Stands (o ∷ c) end
+      → tells broken_weights (table_at last end) o ≡ body_tells broken_weights (table_at last end) kind (of_unit kind) i
       → (e : ℕ) × (entity_denoted (table_at last end) i.place ≡ Some e) × (is_unit kind (table_at last end) e ≡ true)
   body-denotes o c kind i stands e =
       unit-denoted (table_at last end) kind (of_unit kind) i
-      (let h = told-at broken_weights (table_at last end) o c end stands in let g = s.told broken_weights in let f = broken-worth found s.faultless in omega arith)
+      (let h = told-at broken_weights (table_at last end) o c end stands in
+      let g = s.told broken_weights in let f = broken-worth found s.faultless in omega arith)
 
   -- its unit was declared, so it has one body that the table knows
-  unit-once : (kind : UnitKind) (e : ℕ) → is_unit kind (table_at last end) e ≡ true → (has_body (table_at last end) e ≡ true) × (bodies_denoting (table_at last end) kind e end ≤ 1)
+  unit-once : (kind : UnitKind) (e : ℕ) → is_unit kind (table_at last end) e ≡ true
+      → (has_body (table_at last end) e ≡ true) × (bodies_denoting (table_at last end) kind e end ≤ 1)
   unit-once kind e is =
       let n = table_at last end in
       let f = unit-founded last kind e end s.text is in
       let kept : entity_denoted n f.name.place ≡ Some e =
-      ap (λ d. and_then d entity_of) (stays-noted last f.name.place (declares f.name f.what ∷ f.position) end f.stands s.apart (among-place (declares f.name f.what) f.position f.name refl)) ∙ f.denoted in
+      ap (λ d. and_then d entity_of)
+      (stays-noted last f.name.place (declares f.name f.what ∷ f.position) end f.stands s.apart
+      (among-place (declares f.name f.what) f.position f.name refl))
+      ∙ f.denoted in
       let w = declared_weights (of_unit kind) e in
       let one : tells w n (declares f.name f.what) ≡ 1 = declared-weight n kind e f.name f.what f.of_kind kept in
       let positive : 1 ≤ worth w found = let h = told-at w n (declares f.name f.what) f.position end f.stands in let g = s.told w in omega arith in
       let once = declared-once n found (of_unit kind) e s.judged positive in (
         has-known n kind e once.0,
-        (let h = bodies-weight n kind e end in let g = s.told (completed_weights (of_unit kind) e) in let f = completed-worth (of_unit kind) e found in let q = once.1 in omega arith),
+        (let h = bodies-weight n kind e end in
+            let g = s.told (completed_weights (of_unit kind) e) in let f = completed-worth (of_unit kind) e found in let q = once.1 in omega arith),
       )
 
-  known-unit : (kind : UnitKind) (i : Identifier) → (e : ℕ) × (entity_denoted (table_at last end) i.place ≡ Some e) × (is_unit kind (table_at last end) e ≡ true)
+  known-unit : (kind : UnitKind) (i : Identifier)
+      → (e : ℕ) × (entity_denoted (table_at last end) i.place ≡ Some e) × (is_unit kind (table_at last end) e ≡ true)
       → is_known_unit (table_at last end) end kind (entity_denoted (table_at last end) i.place) ≡ true
   known-unit kind i d =
       let n = table_at last end in
       let once = unit-once kind d.0 d.2 in
-      ap (is_known_unit n end kind) d.1 ∙ (ap (λ t. t && (has_body n d.0 && leb (bodies_denoting n kind d.0 end) 1)) d.2 ∙ (ap (λ t. t && leb (bodies_denoting n kind d.0 end) 1) once.0 ∙ le-leb (bodies_denoting n kind d.0 end) 1 once.1))
+      ap (is_known_unit n end kind) d.1
+      ∙ (ap (λ t. t && (has_body n d.0 && leb (bodies_denoting n kind d.0 end) 1)) d.2
+      ∙ (ap (λ t. t && leb (bodies_denoting n kind d.0 end) 1) once.0 ∙ le-leb (bodies_denoting n kind d.0 end) 1 once.1))
 
   known-body : (o : Occurrence) (c : Before) → Stands (o ∷ c) end → is_known_body (table_at last end) end (body_named o) ≡ true
   known-body (begins (task_body i place)) c stands = known-unit unit.Task i (body-denotes (begins (task_body i place)) c unit.Task i stands refl)
@@ -179,7 +201,8 @@ unfolding walked known_of
 walk-told unit n w fits = (tells-unit w 100 (known_of n (names_in_unit unit) (in_force_by unit.pragmas)) unit fits).at
 
 walk-faultless : (unit : Tree) (n : Names) → faults_in (found_of unit n (names_in_unit unit)) ≡ []
-    → (faults_in (walked unit n (names_in_unit unit)) ≡ []) × (faults_in (judged_from n (walked unit n (names_in_unit unit)) 0 (walked unit n (names_in_unit unit))) ≡ [])
+    → (faults_in (walked unit n (names_in_unit unit)) ≡ [])
+    × (faults_in (judged_from n (walked unit n (names_in_unit unit)) 0 (walked unit n (names_in_unit unit))) ≡ [])
 unfolding found_of found_beside
 walk-faultless unit n none =
     let found = walked unit n (names_in_unit unit) in
@@ -192,7 +215,8 @@ sound : (unit : Tree) → unit_fits 100 unit ≡ true → all_differ (places_bef
     → Sound (last_priority_of unit.pragmas) (end_of unit) (walked unit (table_at (last_priority_of unit.pragmas) (end_of unit)) (names_in_unit unit))
 sound unit fits apart none =
     let n = table_at (last_priority_of unit.pragmas) (end_of unit) in
-    let both = walk-faultless unit n (subst (λ m. faults_in (found_of unit m (names_in_unit unit)) ≡ []) (sym (table_at_the_end unit)) (none-found unit none)) in
+    let both =
+    walk-faultless unit n (subst (λ m. faults_in (found_of unit m (names_in_unit unit)) ≡ []) (sym (table_at_the_end unit)) (none-found unit none)) in
     record {
       text = unit-text unit;
       apart = apart;
@@ -209,7 +233,8 @@ unbroken_bodies_complete source unit read none =
     let fits : unit_fits 100 unit ≡ true = (read_is_spelt (lexemes_of source read.tokens) unit read.parsed).1 in
     let apart = names_stand_apart source unit read in
     let s = sound unit fits apart none in
-    bodies_complete_where_known unit apart (subst (λ n. are_known_bodies n end end ≡ true) (table_at_the_end unit) (known-bodies last end _ s end (stands-here end)))
+    bodies_complete_where_known unit apart
+    (subst (λ n. are_known_bodies n end end ≡ true) (table_at_the_end unit) (known-bodies last end _ s end (stands-here end)))
 
 pub unbroken_names_by_position : UnbrokenNamesByPosition
 unbroken_names_by_position source unit read none = names_by_position unit (unbroken_bodies_complete source unit read none) (names_stand_apart source unit read)

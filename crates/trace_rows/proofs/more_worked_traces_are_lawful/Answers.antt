@@ -1,6 +1,7 @@
 -- The tests compute on these traces.
 use Rattle.std.proofs.Common.{refl}
-use Rattle.trace_rows.specs.Second.{trace_16, trace_19, trace_20a, trace_20b, trace_20c, trace_adjust_1, trace_adjust_2, trace_budgets_1, trace_controlled_1, trace_policies_1, trace_representation, trace_requeue_1, trace_requeue_2, trace_requeue_3, trace_wide_1, trace_wide_2}
+use Rattle.trace_rows.specs.Second.{trace_16, trace_19, trace_20a, trace_20b, trace_20c, trace_adjust_1, trace_adjust_2, trace_budgets_1, trace_controlled_1}
+use Rattle.trace_rows.specs.Second.{trace_policies_1, trace_representation, trace_requeue_1, trace_requeue_2, trace_requeue_3, trace_wide_1, trace_wide_2}
 use Rattle.trace_rows.proofs.more_worked_traces_are_lawful.Goals as goal
 
 pub returns-clause-trace_16 : goal.returns-clause-trace_16

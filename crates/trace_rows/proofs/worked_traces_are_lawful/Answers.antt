@@ -1,6 +1,7 @@
 -- The tests compute on these traces.
 use Rattle.std.proofs.Common.{refl}
-use Rattle.trace_rows.specs.First.{trace_01, trace_03, trace_04, trace_05a, trace_05b, trace_05c, trace_06, trace_08a, trace_08b, trace_09a, trace_09b, trace_10, trace_11, trace_12, trace_13, trace_14a, trace_14b, trace_15a, trace_15b, trace_15c, trace_15d}
+use Rattle.trace_rows.specs.First.{trace_01, trace_03, trace_04, trace_05a, trace_05b, trace_05c, trace_06, trace_08a, trace_08b, trace_09a, trace_09b}
+use Rattle.trace_rows.specs.First.{trace_10, trace_11, trace_12, trace_13, trace_14a, trace_14b, trace_15a, trace_15b, trace_15c, trace_15d}
 use Rattle.trace_rows.proofs.worked_traces_are_lawful.Goals as goal
 
 pub returns-clause-trace_01 : goal.returns-clause-trace_01

@@ -6,4 +6,6 @@ use Rattle.ada_completions.proofs.seen_again.seen_among.Given as goal
 
 -- those seen so far and those of the bindings that are to come are all of them
 abbrev pub invariant-loop-binding : goal.invariant-loop-binding
-invariant-loop-binding l = l.seen ++ map bound_again (filter (is_declared_in_unit l.names) (deque_iter_rest l.binding-iterator)) ≡ map bound_again (filter (is_declared_in_unit l.names) l.bound)
+invariant-loop-binding l =
+    l.seen ++ map bound_again (filter (is_declared_in_unit l.names) (deque_iter_rest l.binding-iterator))
+    ≡ map bound_again (filter (is_declared_in_unit l.names) l.bound)

@@ -5,5 +5,6 @@ use Rattle.ada_completions.proofs.subprograms.edit_body.Goals as goal
 
 pub returns-in-Some : goal.returns-in-Some
 returns-in-Some c =
-    let edited = edited_there (with_body_of c.args.scope c.args.formals) c.args.subprograms.now c.args.number c.in-Some.subprogram.now (sym c.in-Some.ensures.value) in
+    let edited =
+    edited_there (with_body_of c.args.scope c.args.formals) c.args.subprograms.now c.args.number c.in-Some.subprogram.now (sym c.in-Some.ensures.value) in
     search rules

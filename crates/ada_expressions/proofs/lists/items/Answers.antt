@@ -10,12 +10,14 @@ returns-then-not-begins g c = λ test part tests reads.
 pub returns-in_err-item : goal.returns-in_err-item
 returns-in_err-item g c = λ test part tests reads.
     let p = err_from_is_err_and c.from_residual.result c.from_residual.ensures.1 in
-    rw (p.1, p.2) (one_stops _ _ _ _ _ _ _ _ c.loop-turn-test.true (sym (tests _ _ c.begins.ensures) ∙ c.if-not-begins.false) (reads _ _ _ c.in_err-item.ensures)
+    rw (p.1, p.2)
+    (one_stops _ _ _ _ _ _ _ _ c.loop-turn-test.true (sym (tests _ _ c.begins.ensures) ∙ c.if-not-begins.false) (reads _ _ _ c.in_err-item.ensures)
     (c.loop-turn.invariant test part tests reads))
 
 pub loop-turn-preserved : goal.loop-turn-preserved
 loop-turn-preserved g c = λ test part tests reads.
-    rw c.in_ok-push.ensures.ok (one_read _ _ _ _ _ _ _ _ _ c.loop-turn-test.true (sym (tests _ _ c.begins.ensures) ∙ c.if-not-begins.false) (reads _ _ _ c.in_ok-item.ensures)
+    rw c.in_ok-push.ensures.ok
+    (one_read _ _ _ _ _ _ _ _ _ c.loop-turn-test.true (sym (tests _ _ c.begins.ensures) ∙ c.if-not-begins.false) (reads _ _ _ c.in_ok-item.ensures)
     (c.loop-turn.invariant test part tests reads))
 
 pub returns : goal.returns

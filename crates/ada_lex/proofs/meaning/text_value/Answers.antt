@@ -8,7 +8,10 @@ loop-n-preserved-then-b-eq34 c =
     record {
       some = omega arith;
       small = omega (arith, c.loop-n-test.true);
-      rest = rw c.in_ok-push.ensures.items (undoubled_mark_at c.args.text.now c.loop-n.n c.loop-n.value.items (undoubled (drop 1 c.args.text.now)) c.loop-n-test.true (eq-eqb _ _ c.if-b-eq34.true) c.loop-n.invariant.rest);
+      rest =
+          rw c.in_ok-push.ensures.items
+          (undoubled_mark_at c.args.text.now c.loop-n.n c.loop-n.value.items (undoubled (drop 1 c.args.text.now)) c.loop-n-test.true
+          (eq-eqb _ _ c.if-b-eq34.true) c.loop-n.invariant.rest);
     }
 
 pub loop-n-preserved : goal.loop-n-preserved
@@ -16,7 +19,10 @@ loop-n-preserved c =
     record {
       some = omega arith;
       small = omega (arith, c.loop-n-test.true);
-      rest = rw c.in_ok-push.ensures.items (undoubled_other_at c.args.text.now c.loop-n.n c.loop-n.value.items (undoubled (drop 1 c.args.text.now)) c.loop-n-test.true (ne_eqb _ _ c.if-b-eq34.false) c.loop-n.invariant.rest);
+      rest =
+          rw c.in_ok-push.ensures.items
+          (undoubled_other_at c.args.text.now c.loop-n.n c.loop-n.value.items (undoubled (drop 1 c.args.text.now)) c.loop-n-test.true
+          (ne_eqb _ _ c.if-b-eq34.false) c.loop-n.invariant.rest);
     }
 
 pub returns : goal.returns

@@ -7,12 +7,15 @@ pub loop-n-preserved : goal.loop-n-preserved
 loop-n-preserved c =
     record {
       in_range = omega arith;
-      rest = run_more c.args.run c.args.bytes.now c.loop-n.n (run_length c.args.run c.args.bytes.now) c.loop-n-test.true (ap (goes_on c.args.run) (sym c.tail.ensures) ∙ sym c.goes_on.ensures ∙ c.if-goes_on.true) c.loop-n.invariant.rest;
+      rest =
+          run_more c.args.run c.args.bytes.now c.loop-n.n (run_length c.args.run c.args.bytes.now) c.loop-n-test.true
+          (ap (goes_on c.args.run) (sym c.tail.ensures) ∙ sym c.goes_on.ensures ∙ c.if-goes_on.true) c.loop-n.invariant.rest;
     }
 
 pub returns-else-goes_on-clause-length : goal.returns-else-goes_on-clause-length
 returns-else-goes_on-clause-length c =
-    run_done c.args.run c.args.bytes.now c.loop-n.n (run_length c.args.run c.args.bytes.now) (ap (goes_on c.args.run) (sym c.tail.ensures) ∙ sym c.goes_on.ensures ∙ c.if-goes_on.false) c.loop-n.invariant.rest
+    run_done c.args.run c.args.bytes.now c.loop-n.n (run_length c.args.run c.args.bytes.now)
+    (ap (goes_on c.args.run) (sym c.tail.ensures) ∙ sym c.goes_on.ensures ∙ c.if-goes_on.false) c.loop-n.invariant.rest
 
 pub returns-after-loop-n-clause-length : goal.returns-after-loop-n-clause-length
 returns-after-loop-n-clause-length c =

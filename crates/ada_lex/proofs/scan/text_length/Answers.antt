@@ -8,7 +8,9 @@ pub loop-n-preserved-then-bytes-n-eq34 : goal.loop-n-preserved-then-bytes-n-eq34
 loop-n-preserved-then-bytes-n-eq34 c =
     record {
       in_range = omega arith;
-      rest = text_doubled_at c.args.bytes.now c.loop-n.n (text_length c.args.bytes.now) c.if-n-bytes.true c.if-b-eq34.true c.if-bytes-n-eq34.true c.loop-n.invariant.rest;
+      rest =
+          text_doubled_at c.args.bytes.now c.loop-n.n
+          (text_length c.args.bytes.now) c.if-n-bytes.true c.if-b-eq34.true c.if-bytes-n-eq34.true c.loop-n.invariant.rest;
     }
 
 pub returns-else-n-bytes-clause-length : goal.returns-else-n-bytes-clause-length
@@ -28,7 +30,9 @@ pub loop-n-preserved : goal.loop-n-preserved
 loop-n-preserved c =
     record {
       in_range = omega arith;
-      rest = text_goes_at c.args.bytes.now c.loop-n.n (text_length c.args.bytes.now) c.loop-n-test.true (ne_eqb _ _ c.if-b-eq34.false) (ne_eqb _ _ c.if-b-eq10.false) c.loop-n.invariant.rest;
+      rest =
+          text_goes_at c.args.bytes.now c.loop-n.n (text_length c.args.bytes.now) c.loop-n-test.true (ne_eqb _ _ c.if-b-eq34.false)
+          (ne_eqb _ _ c.if-b-eq10.false) c.loop-n.invariant.rest;
     }
 
 pub returns-clause-length : goal.returns-clause-length

@@ -6,4 +6,6 @@ pub returns-clause-test : goal.returns-clause-test
 returns-clause-test c = c.is_some.ensures ∙ is_reserved-word c.reserved_word.result c.args.word.now c.reserved_word.ensures.found c.reserved_word.ensures.none
 
 pub returns-clause-any_case : goal.returns-clause-any_case
-returns-clause-any_case c = c.is_some.ensures ∙ is_reserved-word c.reserved_word.result c.args.word.now c.reserved_word.ensures.found c.reserved_word.ensures.none ∙ sym (is_reserved-lower c.args.word.now)
+returns-clause-any_case c =
+    c.is_some.ensures ∙ is_reserved-word c.reserved_word.result c.args.word.now c.reserved_word.ensures.found c.reserved_word.ensures.none
+    ∙ sym (is_reserved-lower c.args.word.now)

@@ -17,7 +17,8 @@ returns-in_err-package c =
 
 pub loop-turn-preserved : goal.loop-turn-preserved
 loop-turn-preserved c =
-    rw c.in_ok-push.ensures.ok (one_package _ _ _ _ _ _ _ _ _ _ c.loop-turn-test.true c.in_ok-context.ensures (cc) c.in_ok-package.ensures c.loop-turn.invariant)
+    rw c.in_ok-push.ensures.ok
+    (one_package _ _ _ _ _ _ _ _ _ _ c.loop-turn-test.true c.in_ok-context.ensures (cc) c.in_ok-package.ensures c.loop-turn.invariant)
 
 pub returns-in_err-last : goal.returns-in_err-last
 returns-in_err-last c =

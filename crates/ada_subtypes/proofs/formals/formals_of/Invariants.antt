@@ -5,4 +5,5 @@ use Rattle.ada_subtypes.proofs.formals.formals_of.Given as goal
 
 -- the formals so far and those of the parameters that are to come are all of them
 abbrev pub invariant-loop-parameter : goal.invariant-loop-parameter
-invariant-loop-parameter l = l.formals ++ flat_map (formals_of_parameter l.names) (drop l.parameter-index l.parameters) ≡ flat_map (formals_of_parameter l.names) l.parameters
+invariant-loop-parameter l =
+    l.formals ++ flat_map (formals_of_parameter l.names) (drop l.parameter-index l.parameters) ≡ flat_map (formals_of_parameter l.names) l.parameters

@@ -11,4 +11,5 @@ returns-in_err-read_line-clause-exact c =
     let read = rw c.line_at-line.ensures.number at c.in_err-read_line.ensures.read in
     rw (p.1, p.2) (refused c.args.bytes.now c.loop-start.reading c.read_line.new.reading
     (record { number = c.loop-start.number + 1; stop = c.line_at-line.result.stop; text = c.line_at-line.result.text.now })
-    (lines_from (c.loop-start.number + 1 + 1) c.line_at-line.result.stop (parts_at 10 (drop c.line_at-line.result.stop c.args.bytes.now))) c.in_err-read_line.field-0.0 rest read)
+    (lines_from (c.loop-start.number + 1 + 1) c.line_at-line.result.stop
+    (parts_at 10 (drop c.line_at-line.result.stop c.args.bytes.now))) c.in_err-read_line.field-0.0 rest read)

@@ -12,7 +12,8 @@ invariant-loop-start l = record {
   within : l.start ≤ length l.bytes;
   short : l.start ≤ SCRIPT_BYTES;
   lines : l.number ≤ l.start;
-  rest : fold read_line (Ok l.reading) (lines_from (l.number + 1) l.start (parts_at 10 (drop l.start l.bytes))) ≡ fold read_line (Ok nothing_read) (lines_of l.bytes);
+  rest : fold read_line (Ok l.reading) (lines_from (l.number + 1) l.start (parts_at 10 (drop l.start l.bytes)))
+      ≡ fold read_line (Ok nothing_read) (lines_of l.bytes);
 }
 
 abbrev pub decreases-loop-start : goal.decreases-loop-start

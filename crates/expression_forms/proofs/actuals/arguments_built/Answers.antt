@@ -12,7 +12,8 @@ returns-then-not-actual_built c =
     let found = ap (λ name. argument_from c.loop-place.place name 0 c.args.arguments.now) (sym c.as_slice.ensures) ∙ sym c.argument_from-argument.ensures in
     let built = ap (λ e. actual_built f e c.args.names.now) found ∙ sym c.actual_built.ensures in
     first_missing _ _ (built ∙ c.if-not-actual_built.true)
-    (sym (actuals_more c.loop-place.place c.args.formals.now f c.args.arguments.now c.args.names.now c.loop-place-test.true c.index-formals-place.is) ∙ c.loop-place.invariant)
+    (sym (actuals_more c.loop-place.place c.args.formals.now f c.args.arguments.now c.args.names.now c.loop-place-test.true c.index-formals-place.is)
+    ∙ c.loop-place.invariant)
 
 -- an actual is built, so the others decide
 pub loop-place-preserved : goal.loop-place-preserved
@@ -21,4 +22,5 @@ loop-place-preserved c =
     let found = ap (λ name. argument_from c.loop-place.place name 0 c.args.arguments.now) (sym c.as_slice.ensures) ∙ sym c.argument_from-argument.ensures in
     let built = ap (λ e. actual_built f e c.args.names.now) found ∙ sym c.actual_built.ensures in
     first_there _ _ (built ∙ c.if-not-actual_built.false)
-    (sym (actuals_more c.loop-place.place c.args.formals.now f c.args.arguments.now c.args.names.now c.loop-place-test.true c.index-formals-place.is) ∙ c.loop-place.invariant)
+    (sym (actuals_more c.loop-place.place c.args.formals.now f c.args.arguments.now c.args.names.now c.loop-place-test.true c.index-formals-place.is)
+    ∙ c.loop-place.invariant)

@@ -7,6 +7,8 @@ use Rattle.image_initials.proofs.declarations.declarations_made.Given as goal
 abbrev pub invariant-loop-declaration : goal.invariant-loop-declaration
 invariant-loop-declaration l = record {
   rest : deque_iter_rest l.declaration-iterator ≡ drop l.before l.within.names.declarations;
-  lists : (declarations_made l.within (take l.before l.within.names.declarations) (deque_iter_rest l.declaration-iterator) l.lists).0 ≡ (declarations_made l.within [] l.within.names.declarations l.fn.lists).0;
-  made : l.made ++ (declarations_made l.within (take l.before l.within.names.declarations) (deque_iter_rest l.declaration-iterator) l.lists).1 ≡ (declarations_made l.within [] l.within.names.declarations l.fn.lists).1;
+  lists : (declarations_made l.within (take l.before l.within.names.declarations) (deque_iter_rest l.declaration-iterator) l.lists).0
+      ≡ (declarations_made l.within [] l.within.names.declarations l.fn.lists).0;
+  made : l.made ++ (declarations_made l.within (take l.before l.within.names.declarations) (deque_iter_rest l.declaration-iterator) l.lists).1
+      ≡ (declarations_made l.within [] l.within.names.declarations l.fn.lists).1;
 }

@@ -7,4 +7,5 @@ use Rattle.image_statements.proofs.exceptions.exceptions_named.Given as goal
 abbrev pub invariant-loop-name : goal.invariant-loop-name
 invariant-loop-name l =
     l.choices ++ map (λ name. exception_choice.Named (exception_named l.within name)) (drop l.name-index l.fn.names.others)
-    ≡ exception_choice.Named (exception_named l.within l.fn.names.first) ∷ map (λ name. exception_choice.Named (exception_named l.within name)) l.fn.names.others
+    ≡ exception_choice.Named (exception_named l.within l.fn.names.first)
+    ∷ map (λ name. exception_choice.Named (exception_named l.within name)) l.fn.names.others

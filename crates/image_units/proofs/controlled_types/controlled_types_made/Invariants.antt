@@ -5,4 +5,5 @@ use Rattle.image_units.proofs.controlled_types.controlled_types_made.Given as go
 
 -- the types so far and those that are to come are all of them
 abbrev pub invariant-loop-controlled : goal.invariant-loop-controlled
-invariant-loop-controlled l = l.made ++ controlled_types_made l.names l.number (deque_iter_rest l.controlled-iterator) ≡ controlled_types_made l.names 0 l.names.controlled_types
+invariant-loop-controlled l =
+    l.made ++ controlled_types_made l.names l.number (deque_iter_rest l.controlled-iterator) ≡ controlled_types_made l.names 0 l.names.controlled_types

@@ -7,5 +7,6 @@ use Rattle.image_units.proofs.task_units.task_units_made.Given as goal
 abbrev pub invariant-loop-task : goal.invariant-loop-task
 invariant-loop-task l = record {
   lists : (task_units_made l.within l.number (deque_iter_rest l.task-iterator) l.lists).0 ≡ (task_units_made l.within 0 l.within.names.task_units l.fn.lists).0;
-  made : l.units ++ (task_units_made l.within l.number (deque_iter_rest l.task-iterator) l.lists).1 ≡ (task_units_made l.within 0 l.within.names.task_units l.fn.lists).1;
+  made : l.units ++ (task_units_made l.within l.number (deque_iter_rest l.task-iterator) l.lists).1
+      ≡ (task_units_made l.within 0 l.within.names.task_units l.fn.lists).1;
 }

@@ -6,4 +6,6 @@ use Rattle.legality_beside.proofs.packages.bodies_put.Given as goal
 
 -- those so far and those that are to come are all of them
 abbrev pub invariant-loop-declaration : goal.invariant-loop-declaration
-invariant-loop-declaration l = l.bodies ++ map (denoted_in l.names) (flat_map body_named (drop l.declaration-index l.declarations)) ≡ l.initial.bodies ++ map (denoted_in l.names) (flat_map body_named l.declarations)
+invariant-loop-declaration l =
+    l.bodies ++ map (denoted_in l.names) (flat_map body_named (drop l.declaration-index l.declarations))
+    ≡ l.initial.bodies ++ map (denoted_in l.names) (flat_map body_named l.declarations)

@@ -5,4 +5,6 @@ use Rattle.legality_declarations.proofs.components.protected_components_found.Gi
 
 -- what is found by now, and what the components to come give, is all
 abbrev pub invariant-loop-component : goal.invariant-loop-component
-invariant-loop-component l = l.found ++ all_found protected_component_found (drop l.component-index l.components) l.known ≡ l.initial.found ++ all_found protected_component_found l.components l.known
+invariant-loop-component l =
+    l.found ++ all_found protected_component_found (drop l.component-index l.components) l.known
+    ≡ l.initial.found ++ all_found protected_component_found l.components l.known

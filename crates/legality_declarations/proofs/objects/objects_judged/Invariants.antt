@@ -5,4 +5,6 @@ use Rattle.legality_declarations.proofs.objects.objects_judged.Given as goal
 
 -- what is found by now, and what the names to come give, is all
 abbrev pub invariant-loop-name : goal.invariant-loop-name
-invariant-loop-name l = l.found ++ flat_map (object_judged l.known l.object l.t) (drop l.name-index l.names.others) ≡ l.initial.found ++ flat_map (object_judged l.known l.object l.t) l.names.others
+invariant-loop-name l =
+    l.found ++ flat_map (object_judged l.known l.object l.t) (drop l.name-index l.names.others)
+    ≡ l.initial.found ++ flat_map (object_judged l.known l.object l.t) l.names.others

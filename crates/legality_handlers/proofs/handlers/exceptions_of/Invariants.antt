@@ -6,4 +6,5 @@ use Rattle.legality_handlers.proofs.handlers.exceptions_of.Given as goal
 -- the names so far, and those to come, are all of them
 abbrev pub invariant-loop-handler : goal.invariant-loop-handler
 invariant-loop-handler g l =
-    l.names ++ flat_map exceptions_named (map (λ h. h.exceptions) (drop l.handler-index l.handlers)) ≡ flat_map exceptions_named (map (λ h. h.exceptions) l.handlers)
+    l.names ++ flat_map exceptions_named (map (λ h. h.exceptions) (drop l.handler-index l.handlers))
+    ≡ flat_map exceptions_named (map (λ h. h.exceptions) l.handlers)

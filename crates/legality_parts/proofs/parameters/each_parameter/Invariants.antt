@@ -5,4 +5,5 @@ use Rattle.legality_parts.proofs.parameters.each_parameter.Given as goal
 -- what is found by now, and what the parameters to come give, is all
 abbrev pub invariant-loop-parameter : goal.invariant-loop-parameter
 invariant-loop-parameter l =
-    l.found ++ all_found (parameter_found l.in_unit l.overrides) (drop l.parameter-index l.parameters) l.known ≡ l.initial.found ++ all_found (parameter_found l.in_unit l.overrides) l.parameters l.known
+    l.found ++ all_found (parameter_found l.in_unit l.overrides) (drop l.parameter-index l.parameters) l.known
+    ≡ l.initial.found ++ all_found (parameter_found l.in_unit l.overrides) l.parameters l.known

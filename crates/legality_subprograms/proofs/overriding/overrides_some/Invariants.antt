@@ -5,4 +5,5 @@ use Rattle.legality_subprograms.proofs.overriding.overrides_some.Given as goal
 
 -- the types that are to come give what all of them give
 abbrev pub invariant-loop-controlled : goal.invariant-loop-controlled
-invariant-loop-controlled l = overrides_some l.subprogram l.formals l.number (deque_iter_rest l.controlled-iterator) ≡ overrides_some l.subprogram l.formals 0 l.types
+invariant-loop-controlled l =
+    overrides_some l.subprogram l.formals l.number (deque_iter_rest l.controlled-iterator) ≡ overrides_some l.subprogram l.formals 0 l.types

@@ -5,4 +5,5 @@ use Rattle.legality_unit_declarations.proofs.units.operations_found.Given as goa
 
 -- what is found by now, and what the operations to come give, is all
 abbrev pub invariant-loop-operation : goal.invariant-loop-operation
-invariant-loop-operation l = l.found ++ all_found operation_found (drop l.operation-index l.operations) l.known ≡ l.initial.found ++ all_found operation_found l.operations l.known
+invariant-loop-operation l =
+    l.found ++ all_found operation_found (drop l.operation-index l.operations) l.known ≡ l.initial.found ++ all_found operation_found l.operations l.known

@@ -6,4 +6,5 @@ use Rattle.legality_units.proofs.walk.found_along.Given as goal
 -- what is found by now, and what the occurrences to come give, is all
 abbrev pub invariant-loop-occurrence : goal.invariant-loop-occurrence
 invariant-loop-occurrence l =
-    l.found ++ found_along (map occurrence_shown (drop l.occurrence-index l.occurrences)) l.names ≡ l.initial.found ++ found_along (map occurrence_shown l.occurrences) l.initial.names
+    l.found ++ found_along (map occurrence_shown (drop l.occurrence-index l.occurrences)) l.names
+    ≡ l.initial.found ++ found_along (map occurrence_shown l.occurrences) l.initial.names

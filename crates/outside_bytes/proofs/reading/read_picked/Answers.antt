@@ -11,7 +11,9 @@ loop-piece-preserved g c =
     let at = left_of files (g.S.Shelf.at c.loop-piece.shelf) in
     let behind = left_of files (g.S.Shelf.at c.read.new.self) in
     let got = take c.in-Ok.count c.read.new.piece in
-    let read = subst (λ told. HasRead told (g.S.Shelf.at c.loop-piece.shelf) (g.S.Shelf.at c.read.new.self) (length c.loop-piece.piece) got c.in-Ok.count) c.loop-piece.invariant.files c.in-Ok.ensures.ok in
+    let read =
+    subst (λ told. HasRead told (g.S.Shelf.at c.loop-piece.shelf) (g.S.Shelf.at c.read.new.self)
+    (length c.loop-piece.piece) got c.in-Ok.count) c.loop-piece.invariant.files c.in-Ok.ensures.ok in
     record {
       picked = c.in-Ok.ensures.picked;
       monotone = omega (arith, c.in-Ok.ensures.monotone, c.loop-piece.invariant.monotone);

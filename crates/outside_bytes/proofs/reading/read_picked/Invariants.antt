@@ -9,7 +9,8 @@ invariant-loop-piece g l = record {
   picked : g.S.Shelf.picked l.shelf ≡ true;
   monotone : g.S.Shelf.faults l.fn.shelf ≤ g.S.Shelf.faults l.shelf;
   files : g.S.Shelf.files l.shelf ≡ g.S.Shelf.files l.fn.shelf;
-  read : HasReadSoFar (left_of (g.S.Shelf.files l.fn.shelf) (g.S.Shelf.at l.fn.shelf)) (left_of (g.S.Shelf.files l.fn.shelf) (g.S.Shelf.at l.shelf)) l.bytes.items;
+  read : HasReadSoFar (left_of (g.S.Shelf.files l.fn.shelf) (g.S.Shelf.at l.fn.shelf))
+      (left_of (g.S.Shelf.files l.fn.shelf) (g.S.Shelf.at l.shelf)) l.bytes.items;
 }
 
 abbrev pub decreases-loop-piece : goal.decreases-loop-piece

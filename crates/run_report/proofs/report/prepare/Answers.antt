@@ -20,15 +20,18 @@ make_quiet-requires-clause-fit c =
     let clocks = c.args.clocks.now.items in
     let given = level_given c.args.event.now in
     rw (c.deref.ensures.value, c.in_ok-add_clock.ensures.added, c.reserve.ensures.items)
-    (all_with (IsFit clocks c.args.last) (IsFit (with_clock given clocks) c.args.last) c.args.items.now.items (λ one fit. fit_with given clocks c.args.last one fit) c.requires.fit)
+    (all_with (IsFit clocks c.args.last) (IsFit (with_clock given clocks) c.args.last) c.args.items.now.items
+    (λ one fit. fit_with given clocks c.args.last one fit) c.requires.fit)
 
 pub returns-clause-same : goal.returns-clause-same
 returns-clause-same c =
     let clocks = c.args.clocks.now.items in
     let given = level_given c.args.event.now in
     rw (c.make_quiet.ensures.items, c.deref.ensures.value, c.in_ok-add_clock.ensures.added, c.reserve.ensures.items)
-    (same_quiet (list_all (goes_on c.args.passing.now) (with_clock given clocks)) c.args.last c.args.items.now.items clocks (get nat_cmp c.note_place.new.places) given c.requires.fit
-    (known_noted c.args.items.now.items (get nat_cmp c.args.places.now) (get nat_cmp c.note_place.new.places) (created_number c.args.event.now) c.len.result c.requires.known c.requires.created c.in_ok-note_place.ensures.noted))
+    (same_quiet (list_all (goes_on c.args.passing.now) (with_clock given clocks)) c.args.last c.args.items.now.items clocks
+    (get nat_cmp c.note_place.new.places) given c.requires.fit
+    (known_noted c.args.items.now.items (get nat_cmp c.args.places.now) (get nat_cmp c.note_place.new.places)
+    (created_number c.args.event.now) c.len.result c.requires.known c.requires.created c.in_ok-note_place.ensures.noted))
 
 pub returns-clause-ready : goal.returns-clause-ready
 returns-clause-ready c =
@@ -36,5 +39,7 @@ returns-clause-ready c =
     let given = level_given c.args.event.now in
     let here : c.len.result ≡ length c.args.items.now.items = omega (arith, c.args.items.now.ok.0) in
     rw (c.make_quiet.ensures.items, c.deref.ensures.value, c.in_ok-add_clock.ensures.added, c.reserve.ensures.items)
-    (ready_quiet c.args.event.now c.args.passing.now c.args.last c.args.items.now.items clocks (get nat_cmp c.args.places.now) (get nat_cmp c.note_place.new.places) c.requires.fit
-    (λ number. c.in_ok-note_place.ensures.noted number ∙ ap (λ place. noted (created_number c.args.event.now) place number (get nat_cmp c.args.places.now number)) here))
+    (ready_quiet c.args.event.now c.args.passing.now c.args.last c.args.items.now.items clocks (get nat_cmp c.args.places.now)
+    (get nat_cmp c.note_place.new.places) c.requires.fit
+    (λ number. c.in_ok-note_place.ensures.noted number
+    ∙ ap (λ place. noted (created_number c.args.event.now) place number (get nat_cmp c.args.places.now number)) here))

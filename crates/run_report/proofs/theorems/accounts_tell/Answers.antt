@@ -24,4 +24,5 @@ returns-clause-more c = λ lines tick event. reported-append nothing_reported li
 
 pub returns-clause-formed : goal.returns-clause-formed
 returns-clause-formed c = λ lines tick event formed.
-    subst (λ seen. IsTrue (is_formed_after seen tick event) ↔ Formed (with_line lines tick event)) (sym (seen_reported nothing_reported lines)) (c.facts_tell.ensures.formed lines tick event formed)
+    subst (λ seen. IsTrue (is_formed_after seen tick event) ↔ Formed (with_line lines tick event)) (sym (seen_reported nothing_reported lines))
+    (c.facts_tell.ensures.formed lines tick event formed)

@@ -9,9 +9,13 @@ use Rattle.trace_files.proofs.judging.judge_file.Goals as goal
 
 pub loop-laws-init : goal.loop-laws-init
 loop-laws-init g c = record {
-  judged = told_map (told (g.S.Shelf.files c.args.shelf.now) c.args.name.now) (IsLeft c.in_ok-trace.trace (left_of (g.S.Shelf.files c.open.new.shelf) (g.S.Shelf.at c.open.new.shelf)))
+  judged =
+      told_map (told (g.S.Shelf.files c.args.shelf.now) c.args.name.now)
+      (IsLeft c.in_ok-trace.trace (left_of (g.S.Shelf.files c.open.new.shelf) (g.S.Shelf.at c.open.new.shelf)))
       (λ file. Judged file c.new-laws.result c.in_ok-trace.trace (left_of (g.S.Shelf.files c.open.new.shelf) (g.S.Shelf.at c.open.new.shelf)))
-      (λ file left. judged_first c.answers_tell.ensures.lawful file c.new-laws.result c.in_ok-trace.trace (left_of (g.S.Shelf.files c.open.new.shelf) (g.S.Shelf.at c.open.new.shelf)) c.new-laws.ensures c.in_ok-trace.ensures.first left) c.in_ok-trace.ensures.left;
+      (λ file left. judged_first c.answers_tell.ensures.lawful file c.new-laws.result c.in_ok-trace.trace
+      (left_of (g.S.Shelf.files c.open.new.shelf)
+      (g.S.Shelf.at c.open.new.shelf)) c.new-laws.ensures c.in_ok-trace.ensures.first left) c.in_ok-trace.ensures.left;
   sound = (omega (arith, c.in_ok-trace.ensures.first), omega (arith, c.in_ok-trace.ensures.first));
   files = c.in_ok-trace.ensures.files;
   picked = c.in_ok-trace.ensures.picked;
@@ -22,8 +26,10 @@ pub returns-in-Refused-clause-verdict : goal.returns-in-Refused-clause-verdict
 returns-in-Refused-clause-verdict g c =
     let trace = c.loop-laws.trace in
     let left = left_of (g.S.Shelf.files c.loop-laws.shelf) (g.S.Shelf.at c.loop-laws.shelf) in
-    told_map (told (g.S.Shelf.files c.args.shelf.now) c.args.name.now) (λ file. Judged file c.loop-laws.laws trace left) (λ file. laws_answer file ≡ verdict.Refused (c.next.new.self.count + 1))
-    (λ file j. judged_refused file c.loop-laws.laws trace left c.next.new.self.count j (rw c.in-Refused.is at c.in_ok-next.ensures.next) (rw c.in-Refused.is at c.in_ok-next.ensures.counted)) c.loop-laws.invariant.judged
+    told_map (told (g.S.Shelf.files c.args.shelf.now) c.args.name.now) (λ file. Judged file c.loop-laws.laws trace left)
+    (λ file. laws_answer file ≡ verdict.Refused (c.next.new.self.count + 1))
+    (λ file j. judged_refused file c.loop-laws.laws trace left c.next.new.self.count j (rw c.in-Refused.is at c.in_ok-next.ensures.next)
+    (rw c.in-Refused.is at c.in_ok-next.ensures.counted)) c.loop-laws.invariant.judged
 
 pub returns-in-Err-Fault-clause-verdict : goal.returns-in-Err-Fault-clause-verdict
 returns-in-Err-Fault-clause-verdict g c =
@@ -33,8 +39,11 @@ returns-in-Err-Fault-clause-verdict g c =
     let goes = rw c.in-Line.is at c.in_ok-next.ensures.next in
     let counted = rw c.in-Line.is at c.in_ok-next.ensures.counted in
     let answers = rw c.in-Err-Fault.field-0-is at c.in-Err-Fault.ensures.answer in
-    rw c.verdict_on.ensures (told_map (told (g.S.Shelf.files c.args.shelf.now) c.args.name.now) (λ file. Judged file c.loop-laws.laws trace left) (λ file. laws_answer file ≡ verdict_on c.in-Err-Fault.fault c.next.new.self.count)
-    (λ file j. judged_fault file c.loop-laws.laws trace left c.in-Line.tick c.in-Line.event c.next.new.self after c.in-Err-Fault.fault j goes counted.1 answers) c.loop-laws.invariant.judged)
+    rw c.verdict_on.ensures
+    (told_map (told (g.S.Shelf.files c.args.shelf.now) c.args.name.now) (λ file. Judged file c.loop-laws.laws trace left)
+    (λ file. laws_answer file ≡ verdict_on c.in-Err-Fault.fault c.next.new.self.count)
+    (λ file j. judged_fault file c.loop-laws.laws trace left c.in-Line.tick c.in-Line.event c.next.new.self after c.in-Err-Fault.fault j goes counted.1
+    answers) c.loop-laws.invariant.judged)
 
 pub loop-laws-preserved : goal.loop-laws-preserved
 loop-laws-preserved g c =
@@ -44,8 +53,11 @@ loop-laws-preserved g c =
     let goes = rw c.in-Line.is at c.in_ok-next.ensures.next in
     let counted = rw c.in-Line.is at c.in_ok-next.ensures.counted in
     record {
-      judged = told_map (told (g.S.Shelf.files c.args.shelf.now) c.args.name.now) (λ file. Judged file c.loop-laws.laws trace left) (λ file. Judged file c.line.new.self c.next.new.self after)
-          (λ file j. judged_on file c.loop-laws.laws trace left c.in-Line.tick c.in-Line.event c.next.new.self after c.line.new.self j goes counted.1 c.in-Ok.ensures.answer c.in-Ok.ensures.stands c.in-Ok.ensures.lawful) c.loop-laws.invariant.judged;
+      judged =
+          told_map (told (g.S.Shelf.files c.args.shelf.now) c.args.name.now) (λ file. Judged file c.loop-laws.laws trace left)
+          (λ file. Judged file c.line.new.self c.next.new.self after)
+          (λ file j. judged_on file c.loop-laws.laws trace left c.in-Line.tick c.in-Line.event c.next.new.self after c.line.new.self j goes counted.1
+          c.in-Ok.ensures.answer c.in-Ok.ensures.stands c.in-Ok.ensures.lawful) c.loop-laws.invariant.judged;
       sound = c.in_ok-next.ensures.sound;
       files = c.in_ok-next.ensures.files ∙ c.loop-laws.invariant.files;
       picked = c.in_ok-next.ensures.picked;

@@ -8,7 +8,8 @@ use Rattle.trace_files.proofs.judging.judge_file.Given as goal
 -- the lines that were read are lawful, and what is left decides
 abbrev pub invariant-loop-laws : goal.invariant-loop-laws
 invariant-loop-laws g l = record {
-  judged : WhereTold (told (g.S.Shelf.files l.fn.shelf) l.fn.name) (λ file. Judged file l.laws l.trace (left_of (g.S.Shelf.files l.shelf) (g.S.Shelf.at l.shelf)));
+  judged : WhereTold (told (g.S.Shelf.files l.fn.shelf) l.fn.name)
+      (λ file. Judged file l.laws l.trace (left_of (g.S.Shelf.files l.shelf) (g.S.Shelf.at l.shelf)));
   sound : IsSound l.trace;
   files : g.S.Shelf.files l.shelf ≡ g.S.Shelf.files l.fn.shelf;
   picked : g.S.Shelf.picked l.shelf ≡ true;

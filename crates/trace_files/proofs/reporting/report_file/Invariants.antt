@@ -8,7 +8,8 @@ use Rattle.trace_files.proofs.reporting.report_file.Given as goal
 -- the lines that were read are formed, and what is left decides
 abbrev pub invariant-loop-report : goal.invariant-loop-report
 invariant-loop-report g l = record {
-  reporting : WhereTold (told (g.S.Shelf.files l.fn.shelf) l.fn.name) (λ file. Reporting file l.report l.trace (left_of (g.S.Shelf.files l.shelf) (g.S.Shelf.at l.shelf)));
+  reporting : WhereTold (told (g.S.Shelf.files l.fn.shelf) l.fn.name)
+      (λ file. Reporting file l.report l.trace (left_of (g.S.Shelf.files l.shelf) (g.S.Shelf.at l.shelf)));
   sound : IsSound l.trace;
   files : g.S.Shelf.files l.shelf ≡ g.S.Shelf.files l.fn.shelf;
   picked : g.S.Shelf.picked l.shelf ≡ true;

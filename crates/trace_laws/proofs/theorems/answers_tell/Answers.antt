@@ -10,7 +10,13 @@ returns-clause-answer c = λ lines tick event formed keeps.
     let facts = c.facts_tell.ensures in
     let tests = c.tests_tell.ensures in
     answer_next lines tick event
-    (record { tick = facts.tick lines; runner = facts.runner lines; queue = facts.queue lines; base = λ number. facts.base number lines; ceiling = λ number. facts.ceiling number lines })
+    (record {
+      tick = facts.tick lines;
+      runner = facts.runner lines;
+      queue = facts.queue lines;
+      base = λ number. facts.base number lines;
+      ceiling = λ number. facts.ceiling number lines;
+    })
     (record {
       dispatch = (tests.dispatch lines formed.rises).1 keeps.dispatch;
       ceilings = (tests.ceilings lines).1 keeps.ceilings;

@@ -8,7 +8,8 @@ use Rattle.trace_laws.proofs.theorems.verdicts_tell.Goals as goal
 pub returns-clause-says : goal.returns-clause-says
 returns-clause-says c = λ bytes.
     let formed = (c.tests_tell.ensures.formed []).0 refl in
-    verdict_says c.answers_tell.ensures.lawful 0 [] [] (texts_in bytes) refl (record { read = tt; formed = formed; lawful = c.tests_tell.ensures.laws [] formed.rises refl; within = omega arith })
+    verdict_says c.answers_tell.ensures.lawful 0 [] [] (texts_in bytes) refl
+    (record { read = tt; formed = formed; lawful = c.tests_tell.ensures.laws [] formed.rises refl; within = omega arith })
 
 pub returns-clause-only : goal.returns-clause-only
 returns-clause-only c = λ bytes verdict says.

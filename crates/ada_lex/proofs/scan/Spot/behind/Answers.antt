@@ -10,8 +10,12 @@ loop-b-preserved c =
       offset = omega (arith, c.behind_byte-spot.ensures.offset, c.loop-b.invariant.offset);
       line = c.behind_byte-spot.ensures.line;
       column = c.behind_byte-spot.ensures.column;
-      rest = subst (λ (s : Spot). behind_all (drop (c.loop-b.b-index + 1) c.args.bytes.now) s ≡ behind_all c.args.bytes.now c.args.self) (sym c.behind_byte-spot.ensures.spot) (behind_more c.args.bytes.now c.loop-b.b-index c.loop-b.spot (behind_all c.args.bytes.now c.args.self) c.loop-b-test.true c.loop-b.invariant.rest);
+      rest =
+          subst (λ (s : Spot). behind_all (drop (c.loop-b.b-index + 1) c.args.bytes.now) s ≡ behind_all c.args.bytes.now c.args.self)
+          (sym c.behind_byte-spot.ensures.spot)
+          (behind_more c.args.bytes.now c.loop-b.b-index c.loop-b.spot (behind_all c.args.bytes.now c.args.self) c.loop-b-test.true c.loop-b.invariant.rest);
     }
 
 pub returns-clause-spot : goal.returns-clause-spot
-returns-clause-spot c = behind_done c.args.bytes.now c.loop-b.b-index c.loop-b.spot (behind_all c.args.bytes.now c.args.self) c.loop-b-test.false c.loop-b.invariant.rest
+returns-clause-spot c =
+    behind_done c.args.bytes.now c.loop-b.b-index c.loop-b.spot (behind_all c.args.bytes.now c.args.self) c.loop-b-test.false c.loop-b.invariant.rest

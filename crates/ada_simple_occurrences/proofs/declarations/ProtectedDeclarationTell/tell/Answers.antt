@@ -11,7 +11,9 @@ returns c =
     let inside = flat_map names_in_operation p.operations ++ if_there names_in_private p.components in
     let region = within_region (a_unit p.name) inside in
     let declared = declares p.name (a_protected p.is_type p.aspects) in
-    let in_region = both_told _ _ _ (flat_map names_in_operation p.operations) (if_there names_in_private p.components) c.in_ok-tell-2.ensures c.in_ok-tell_private.ensures in
+    let in_region =
+    both_told _ _ _ (flat_map names_in_operation p.operations)
+    (if_there names_in_private p.components) c.in_ok-tell-2.ensures c.in_ok-tell_private.ensures in
     then_told _ _ _ _ (one (hides p.name)) (names_in_aspects p.aspects ++ (declared ∷ region)) c.in_ok-push.ensures
     (then_told _ _ _ _ (names_in_aspects p.aspects) (declared ∷ region) c.in_ok-tell.ensures
     (then_told _ _ _ _ (one declared) region (rw (← c.as_slice.ensures) c.in_ok-push-2.ensures)

@@ -1,4 +1,5 @@
-use Rattle.std.proofs.Common.{rules, arith, add-one, length-append, suc, [], ◌∷◌, ◌++◌, ◌≡◌, ◌<◌, ◌+◌, ◌==◌, length, vec_len, sym, ap, subst, true, false, not, ◌∙◌}
+use Rattle.std.proofs.Common.{rules, arith, add-one, length-append, suc, [], ◌∷◌, ◌++◌, ◌≡◌, ◌<◌}
+use Rattle.std.proofs.Common.{◌+◌, ◌==◌, length, vec_len, sym, ap, subst, true, false, not, ◌∙◌}
 use Rattle.std.proofs.lemmas.Bool.{ne_eqb}
 use Rattle.outside_bytes.specs.Files.{left_of}
 use Rattle.outside_bytes.specs.Bytes.{has_feed}
@@ -18,7 +19,8 @@ returns-then-byte-eq10-clause-line g c =
     let inside : lines.next < length lines.piece.items = search (rules, c.if-self-len.true, c.len.ensures) in
     let feed : (byte == 10) ≡ true = ap (λ n. n == 10) c.if-byte-eq10.true in
     subst (λ xs. HandsOn c.args.most before after xs true) (sym c.in_ok-push.ensures.items)
-    (ended_line before after line byte c.args.most c.loop-self.invariant.none c.loop-self.invariant.short feed (handed_one before left line lines.piece.items lines.next lines.room byte inside c.index-byte.ensures c.loop-self.invariant.handed))
+    (ended_line before after line byte c.args.most c.loop-self.invariant.none c.loop-self.invariant.short feed
+    (handed_one before left line lines.piece.items lines.next lines.room byte inside c.index-byte.ensures c.loop-self.invariant.handed))
 
 pub returns-then-len-most-clause-line : goal.returns-then-len-most-clause-line
 returns-then-len-most-clause-line g c =
@@ -30,7 +32,8 @@ returns-then-len-most-clause-line g c =
     let after = come (lines.next + 1) lines.piece.items lines.room left in
     let inside : lines.next < length lines.piece.items = search (rules, c.if-self-len.true, c.len.ensures) in
     let count : vec_len c.push.new.self ≡ length c.push.new.self.items = search rules in
-    let full : length (line ++ byte ∷ []) ≡ c.args.most = ap length (sym c.in_ok-push.ensures.items) ∙ sym count ∙ sym c.len-then-self-len.ensures ∙ c.if-len-most.true in
+    let full : length (line ++ byte ∷ []) ≡ c.args.most =
+    ap length (sym c.in_ok-push.ensures.items) ∙ sym count ∙ sym c.len-then-self-len.ensures ∙ c.if-len-most.true in
     subst (λ xs. HandsOn c.args.most before after xs true) (sym c.in_ok-push.ensures.items)
     (cut_line before after line byte c.args.most c.loop-self.invariant.none (ne_eqb byte 10 c.if-byte-eq10.false) full
     (handed_one before left line lines.piece.items lines.next lines.room byte inside c.index-byte.ensures c.loop-self.invariant.handed))
@@ -45,10 +48,13 @@ loop-self-preserved-else-len-most g c =
     let after = come (lines.next + 1) lines.piece.items lines.room left in
     let inside : lines.next < length lines.piece.items = search (rules, c.if-self-len.true, c.len.ensures) in
     let count : vec_len c.push.new.self ≡ length c.push.new.self.items = search rules in
-    let size : length c.push.new.self.items ≡ suc (length line) = ap length c.in_ok-push.ensures.items ∙ length-append line (byte ∷ []) ∙ add-one (length line) in
+    let size : length c.push.new.self.items ≡ suc (length line) =
+    ap length c.in_ok-push.ensures.items ∙ length-append line (byte ∷ []) ∙ add-one (length line) in
     record {
       short = omega (arith, size, count, c.len-then-self-len.ensures, c.if-len-most.false, c.loop-self.invariant.short);
-      none = subst (λ xs. has_feed xs ≡ false) (sym c.in_ok-push.ensures.items) (has_feed-push line byte c.loop-self.invariant.none (ne_eqb byte 10 c.if-byte-eq10.false));
+      none =
+          subst (λ xs. has_feed xs ≡ false) (sym c.in_ok-push.ensures.items)
+          (has_feed-push line byte c.loop-self.invariant.none (ne_eqb byte 10 c.if-byte-eq10.false));
       handed = subst (HasHandedOn before after) (sym c.in_ok-push.ensures.items)
           (handed_one before left line lines.piece.items lines.next lines.room byte inside c.index-byte.ensures c.loop-self.invariant.handed);
       files = c.loop-self.invariant.files;
@@ -64,5 +70,6 @@ returns-then-not-branch-clause-line g c =
     let line = c.loop-self.line.items in
     let size : vec_len c.loop-self.line ≡ length line = search rules in
     let read = c.in_ok-refill.ensures.read in
-    last_line before between after line (not c.is_empty.result) c.args.most c.loop-self.invariant.none c.loop-self.invariant.short c.loop-self.invariant.handed (read.ended c.if-not-branch.true) read.same
+    last_line before between after line (not c.is_empty.result) c.args.most c.loop-self.invariant.none c.loop-self.invariant.short c.loop-self.invariant.handed
+    (read.ended c.if-not-branch.true) read.same
     (ap not c.is_empty.ensures ∙ some_by line (vec_len c.loop-self.line) size)

@@ -9,7 +9,8 @@ abbrev pub invariant-loop-self : goal.invariant-loop-self
 invariant-loop-self g l = record {
   short : length l.line.items < l.fn.most;
   none : has_feed l.line.items ≡ false;
-  handed : HasHandedOn (to_come l.fn.self (left_of (g.S.Shelf.files l.fn.shelf) (g.S.Shelf.at l.fn.shelf))) (to_come l.self (left_of (g.S.Shelf.files l.shelf) (g.S.Shelf.at l.shelf))) l.line.items;
+  handed : HasHandedOn (to_come l.fn.self (left_of (g.S.Shelf.files l.fn.shelf) (g.S.Shelf.at l.fn.shelf)))
+      (to_come l.self (left_of (g.S.Shelf.files l.shelf) (g.S.Shelf.at l.shelf))) l.line.items;
   files : g.S.Shelf.files l.shelf ≡ g.S.Shelf.files l.fn.shelf;
   picked : g.S.Shelf.picked l.shelf ≡ true;
   monotone : g.S.Shelf.faults l.fn.shelf ≤ g.S.Shelf.faults l.shelf;

@@ -20,12 +20,15 @@ returns-in_ok-extend_from_slice-in-Ok-clause-read g c =
     subst (λ f. HasMoved left (left_of f (g.S.Shelf.at c.read.new.self)) 4096 (take read got) read) (sym c.in-Ok.ensures.files)
     (moved files (g.S.Shelf.at c.args.shelf.now) (g.S.Shelf.at c.read.new.self) 4096 (take read got) read c.in-Ok.ensures.ok) in
     let is = is_kept lines.room read count c.min-count.ensures in
-    let items : c.extend_from_slice.new.self.items ≡ take count got = c.in_ok-extend_from_slice-in-Ok.ensures.items ∙ ap (λ xs. xs ++ take count got) c.clear.ensures.items in
+    let items : c.extend_from_slice.new.self.items ≡ take count got =
+    c.in_ok-extend_from_slice-in-Ok.ensures.items ∙ ap (λ xs. xs ++ take count got) c.clear.ensures.items in
     let size : length (take count got) ≡ count = length-take-le count got (omega (arith, c.in-Ok.ensures.within, c.read.auto.piece, c.min-count.ensures)) in
     record {
       same = subst (λ xs. IsStillToCome (come lines.next lines.piece.items lines.room left) (come 0 xs (lines.room - count) behind)) (sym items)
           (same_to_come left behind got lines.piece.items 4096 lines.next lines.room read count moves c.requires.used is);
-      ended = λ none. nothing_to_come left behind got lines.piece.items 4096 lines.next lines.room read count moves (omega arith) c.requires.used is (omega (arith, ltb-false 0 count none));
+      ended =
+          λ none. nothing_to_come left behind got lines.piece.items 4096 lines.next lines.room read count moves (omega arith) c.requires.used is
+          (omega (arith, ltb-false 0 count none));
       less = omega (arith, ap length items, size, c.min-count.ensures);
       more = λ some. omega (arith, ap length items, size, ltb-true 0 count some);
       next = refl;

@@ -5,4 +5,6 @@ use Rattle.trace_laws.specs.Regions.{leavings_in, is_next_final_of}
 use Rattle.trace_laws.proofs.regions.Regions.is_next_in_each.Given as goal
 
 abbrev pub invariant-loop-init : goal.invariant-loop-init
-invariant-loop-init l = list_all (is_next_final_of (leavings_in l.self) l.object) (drop l.init-index l.self.inits.items) ≡ list_all (is_next_final_of (leavings_in l.self) l.object) l.self.inits.items
+invariant-loop-init l =
+    list_all (is_next_final_of (leavings_in l.self) l.object) (drop l.init-index l.self.inits.items)
+    ≡ list_all (is_next_final_of (leavings_in l.self) l.object) l.self.inits.items

@@ -18,4 +18,6 @@ returns-in-Some c =
     let fields = c.self.inside in
     let found : place_of c.args.who fields.entries.entries ≡ Some c.in-Some.place.now =
     sym (c.self.invariant.places_known c.args.who) ∙ sym (ap (λ n. get nat_cmp fields.places n) c.number_of.ensures) ∙ sym c.in-Some.ensures.value in
-    rw (sym c.self.view_is) (c.copied.ensures ∙ c.get-in-Some.ensures.value ∙ entry_found c.args.who fields.first fields.next c.in-Some.place.now fields.entries.entries c.self.invariant.rises found)
+    rw (sym c.self.view_is)
+    (c.copied.ensures ∙ c.get-in-Some.ensures.value
+    ∙ entry_found c.args.who fields.first fields.next c.in-Some.place.now fields.entries.entries c.self.invariant.rises found)

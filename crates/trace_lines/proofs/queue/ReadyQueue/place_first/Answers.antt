@@ -34,11 +34,15 @@ invariant_of-self-2 c =
     subst (λ f. IsKept es (get nat_cmp fields.places) (get rank_cmp fields.ranks) f fields.next) (omega (arith, nonzero)) c.self.invariant in
     let out = out_of entry.who (place + 1) fields.next before es kept.rises kept.once (done.before ∙ kept.places_known entry.who) in
     let told = first_in entry.who place fields.next before entry es kept.rises out in
-    let rest : (rank : Rank) → get rank_cmp c.take_out.new.ranks rank ≡ unranked before (entry_at before es) rank (cond (is_eq (rank_cmp (rank_of place entry) rank)) (Some entry) (get rank_cmp fields.ranks rank)) =
-    λ rank. c.take_out.ensures.ranks rank ∙ ap (λ es. unranked before (entry_at before es) rank (get rank_cmp c.put_in.new.ranks rank)) done.entries ∙ ap (λ e. unranked before e rank (get rank_cmp c.put_in.new.ranks rank)) told.0
+    let rest : (rank : Rank)
+    → get rank_cmp c.take_out.new.ranks rank
+    ≡ unranked before (entry_at before es) rank (cond (is_eq (rank_cmp (rank_of place entry) rank)) (Some entry) (get rank_cmp fields.ranks rank)) =
+    λ rank. c.take_out.ensures.ranks rank ∙ ap (λ es. unranked before (entry_at before es) rank (get rank_cmp c.put_in.new.ranks rank)) done.entries
+    ∙ ap (λ e. unranked before e rank (get rank_cmp c.put_in.new.ranks rank)) told.0
     ∙ ap (unranked before (entry_at before es) rank) (done.ranks rank) in
     rw (c.take_out.ensures.entries, done.entries, told.1)
-    (kept_first entry place fields.next before es (get nat_cmp fields.places) (get nat_cmp c.put_in.new.places) (get rank_cmp fields.ranks) (get rank_cmp c.take_out.new.ranks) kept out done.places rest)
+    (kept_first entry place fields.next before es (get nat_cmp fields.places) (get nat_cmp c.put_in.new.places) (get rank_cmp fields.ranks)
+    (get rank_cmp c.take_out.new.ranks) kept out done.places rest)
 
 pub returns-clause-placed : goal.returns-clause-placed
 returns-clause-placed c =

@@ -30,11 +30,15 @@ invariant_of-self-2 c =
     let kept = c.self.invariant in
     let out = out_of entry.who fields.first place before es kept.rises kept.once (done.before ∙ kept.places_known entry.who) in
     let told = last_in entry.who fields.first place before entry es kept.rises out in
-    let rest : (rank : Rank) → get rank_cmp c.take_out.new.ranks rank ≡ unranked before (entry_at before es) rank (cond (is_eq (rank_cmp (rank_of place entry) rank)) (Some entry) (get rank_cmp fields.ranks rank)) =
-    λ rank. c.take_out.ensures.ranks rank ∙ ap (λ es. unranked before (entry_at before es) rank (get rank_cmp c.put_in.new.ranks rank)) done.entries ∙ ap (λ e. unranked before e rank (get rank_cmp c.put_in.new.ranks rank)) told.0
+    let rest : (rank : Rank)
+    → get rank_cmp c.take_out.new.ranks rank
+    ≡ unranked before (entry_at before es) rank (cond (is_eq (rank_cmp (rank_of place entry) rank)) (Some entry) (get rank_cmp fields.ranks rank)) =
+    λ rank. c.take_out.ensures.ranks rank ∙ ap (λ es. unranked before (entry_at before es) rank (get rank_cmp c.put_in.new.ranks rank)) done.entries
+    ∙ ap (λ e. unranked before e rank (get rank_cmp c.put_in.new.ranks rank)) told.0
     ∙ ap (unranked before (entry_at before es) rank) (done.ranks rank) in
     rw (c.take_out.ensures.entries, done.entries, told.1)
-    (kept_last entry fields.first place before es (get nat_cmp fields.places) (get nat_cmp c.put_in.new.places) (get rank_cmp fields.ranks) (get rank_cmp c.take_out.new.ranks) kept out done.places rest)
+    (kept_last entry fields.first place before es (get nat_cmp fields.places) (get nat_cmp c.put_in.new.places) (get rank_cmp fields.ranks)
+    (get rank_cmp c.take_out.new.ranks) kept out done.places rest)
 
 pub returns-clause-placed : goal.returns-clause-placed
 returns-clause-placed c =
@@ -47,4 +51,5 @@ returns-clause-placed c =
     let kept = c.self.invariant in
     let out = out_of entry.who fields.first place before es kept.rises kept.once (done.before ∙ kept.places_known entry.who) in
     let told = last_in entry.who fields.first place before entry es kept.rises out in
-    rw (c.take_out.ensures.entries, done.entries, told.1, sym c.self.view_is) (values_last place entry (without_place before es) ∙ ap (λ vs. vs ++ entry ∷ []) out.values)
+    rw (c.take_out.ensures.entries, done.entries, told.1, sym c.self.view_is)
+    (values_last place entry (without_place before es) ∙ ap (λ vs. vs ++ entry ∷ []) out.values)

@@ -16,7 +16,8 @@ invariant_of-self c =
     let at : before ≡ place_of who es = (rw c.number_of.ensures at c.remove-place.ensures.value) ∙ kept.places_known who in
     let out = out_of who fields.first fields.next before es kept.rises kept.once at in
     rw c.take_out.ensures.entries
-    (kept_out who fields.first fields.next before es (get nat_cmp fields.places) (get nat_cmp c.remove-place.new.self) (get rank_cmp fields.ranks) (get rank_cmp c.take_out.new.ranks) kept out
+    (kept_out who fields.first fields.next before es (get nat_cmp fields.places) (get nat_cmp c.remove-place.new.self) (get rank_cmp fields.ranks)
+    (get rank_cmp c.take_out.new.ranks) kept out
     (rw c.number_of.ensures at c.remove-place.ensures.updates.0) c.take_out.ensures.ranks)
 
 pub returns : goal.returns

@@ -52,9 +52,9 @@ pub fn new_task(alloc: Global, who: Who, base: Level, state: State) -> Task
 pub fn found_task(name: Who, tasks: &Roster<Task>) -> Option<&Task>
     ensures { option_copied result ≡ found_task name tasks.now }
 {
-    match place_of(tasks, name) {
-        Some(place) => tasks.get(place),
-        None => None,
+    match name {
+        Who::Task(number) => tasks.find(number.0),
+        Who::Agent => tasks.iter().find(|task| same_who(name, task.who)),
     }
 }
 

@@ -1,5 +1,5 @@
 -- Numbers in order: what stays in order where one is left out, taken back or put at an end, and where a number stands.
-use Rattle.std.proofs.Common.{◌≡◌, ltb, ℕ, ◌+◌, ◌-◌, ◌<◌, ◌≤◌, suc, zero, true, false, cond, List, [], ◌∷◌, ◌++◌, map}
+use Rattle.std.proofs.Common.{◌≡◌, ltb, ◌≢◌, ℕ, ◌+◌, ◌-◌, ◌<◌, ◌≤◌, suc, zero, Bool, true, false, not, ◌||◌, cond, List, [], ◌∷◌, ◌++◌, map}
 use Rattle.std.proofs.Common.{Option, Some, None, length, remove, take, refl, sym, ap, ◌∙◌, inl, inr, subst, arith}
 use Rattle.std.specs.List.{position_from, position_or_len, slice_get}
 use Rattle.std.proofs.lemmas.Bool.{cases_lt, cases_order, cases_Bool, true≢false}
@@ -45,6 +45,13 @@ has_number-after o n None b p q = cc
 has_number-after o n (Some a) None p q = cc
 has_number-after Rising n (Some a) (Some b) p q = grind (arith, nat_tests)
 has_number-after Falling n (Some a) (Some b) p q = grind (arith, nat_tests)
+
+-- what comes before a number comes before what has it
+pub before-number : (o : Order) (n : ℕ) (a b : Option ℕ) → has_number n b ≡ true → comes_before o a (Some n) ≡ true → comes_before o a b ≡ true
+before-number o n a None p q = cc
+before-number o n None (Some b) p q = cc
+before-number Rising n (Some a) (Some b) p q = grind (arith, nat_tests)
+before-number Falling n (Some a) (Some b) p q = grind (arith, nat_tests)
 
 has_number-self : (n : ℕ) → has_number n (Some n) ≡ true
 has_number-self n = grind (arith, nat_tests)
@@ -367,6 +374,68 @@ position-lent f o n p xs h e front =
     let before = before-lent o ns p within others (λ i last. front i last (omega arith)) in
     let first = position_or_len_is (has_number n) ns p None (omega arith) (λ k lt. has_number-before o n _ _ (before k lt) e) (λ _. e) in
     sym (position_from-zero (has_number n) ns) ∙ grind (arith, nat_tests)
+
+-- what is free of a number, where a place is behind it
+behind-free : (a b : Bool) → a ≡ false → (a || not b) ≡ true → b ≡ false
+behind-free true b f g = cc
+behind-free false true f g = cc
+behind-free false false f g = refl
+
+not-below : (k p : ℕ) → p < k → ltb k p ≡ false
+not-below k p lt = grind (arith, nat_tests)
+
+above-apart : (k p : ℕ) → p ≤ k → k ≢ p → p < k
+above-apart k p le apart = elim (cases_order k p) [
+  | inl same ↦ absurd (apart same)
+  | inr either ↦ elim either [
+    | inl below ↦ absurd (omega arith)
+    | inr above ↦ above
+  ]
+]
+
+-- an item beside a lent one that has no such number in front of it is the first that has its number, if the others are in order
+module _ (o : Order) (n p k : ℕ) (ns : List (Option ℕ)) (e : has_number n (number_at ns k) ≡ true) (apart : k ≢ p)
+    (free : (ltb k p || not (has_number n (number_at ns p))) ≡ true) where
+  pair-beside : p < length ns → InOrder o (remove ns p) → (i : ℕ) → i < k → k < length ns → i < p → comes_before o (number_at ns i) (number_at ns k) ≡ true
+  pair-beside lt h i less within below = elim (cases_lt k p) [
+    | inl under ↦ both-below o ns p lt h i k less under
+    | inr over ↦
+        let far = above-apart k p over apart in
+        let next : k - 1 + 1 ≡ k = omega arith in
+        subst (λ q. comes_before o (number_at ns i) (number_at ns q) ≡ true) next
+        (either-side o ns p lt h i (k - 1) below (omega arith) (omega arith))
+  ]
+
+  pair-behind : p < length ns → InOrder o (remove ns p) → (i : ℕ) → i < k → k < length ns → p < i → comes_before o (number_at ns i) (number_at ns k) ≡ true
+  pair-behind lt h i less within above =
+      let first : i - 1 + 1 ≡ i = omega arith in
+      let next : k - 1 + 1 ≡ k = omega arith in
+      subst (λ q. comes_before o (number_at ns q) (number_at ns k) ≡ true) first
+      (subst (λ q. comes_before o (number_at ns (i - 1 + 1)) (number_at ns q) ≡ true) next
+      (both-above o ns p lt h (i - 1) (k - 1) (omega arith) (omega arith) (omega arith)))
+
+  none-beside : p < length ns → InOrder o (remove ns p) → k < length ns → (i : ℕ) → i < k → has_number n (number_at ns i) ≡ false
+  none-beside lt h within i less = elim (cases_order i p) [
+    | inl same ↦
+        ap (λ q. has_number n (number_at ns q)) same
+        ∙ behind-free (ltb k p) (has_number n (number_at ns p)) (not-below k p (subst (λ q. q < k) same less)) free
+    | inr either ↦ elim either [
+      | inl below ↦ has_number-before o n _ _ (pair-beside lt h i less within below) e
+      | inr above ↦ has_number-before o n _ _ (pair-behind lt h i less within above) e
+    ]
+  ]
+
+  others-free : InOrder o (remove ns p) → k < length ns → (i : ℕ) → i < k → has_number n (number_at ns i) ≡ false
+  others-free h within i less = elim (cases_lt p (length ns)) [
+    | inl lt ↦ none-beside lt h within i less
+    | inr le ↦ has_number-before o n _ _ ((subst (InOrder o) (remove-past ns p le) h).at i k less within) e
+  ]
+
+  pub position-beside : InOrder o (remove ns p) → position_from (has_number n) 0 ns ≡ Some k
+  position-beside h =
+      let within = has-within n ns k e in
+      let first = position_or_len_is (has_number n) ns k None (omega arith) (λ i less. others-free h within i less) (λ _. e) in
+      sym (position_from-zero (has_number n) ns) ∙ grind (arith, nat_tests)
 
 pub position-map : {X : Type 0} (f : X → Option ℕ) (n i : ℕ) (xs : List X)
     → position_from (has_number n) i (map f xs) ≡ position_from (λ x. has_number n (f x)) i xs

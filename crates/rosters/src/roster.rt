@@ -13,7 +13,7 @@ ghost use Rattle.profile_image.specs.Words.{without};
 ghost use Rattle.rosters.specs.Numbered.{has_number};
 
 use crate::roster_notes::{
-    Notes, counted, fits, forget, is_calm, joined_at_back, joined_in_front, lend, no_notes,
+    Notes, counted, fits, forget, found, is_calm, joined_at_back, joined_in_front, lend, no_notes,
     place_of,
 };
 use std::alloc::{AllocFailed, Global};
@@ -135,10 +135,7 @@ impl<T: Numbered> Roster<T> {
     pub fn find(&self, number: u32) -> Option<&T>
         ensures { option_copied result ≡ find (λ x. has_number number (T.number x)) self.now }
     {
-        match self.place_of(number) {
-            Some(place) => self.get(place),
-            None => None,
-        }
+        found(&self.items, &self.notes, number)
     }
 
     /// Keeps the items for which the test holds, in order.

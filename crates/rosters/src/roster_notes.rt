@@ -9,8 +9,8 @@
 //! What is remembered may be unknown: then the items are walked over, and the answer is the same. A
 //! clause `known` says when a step does not lose it.
 ghost use Rattle.std.specs.Prelude.{◌≡◌, ℕ, ◌+◌, ◌^◌, IsSome, ◌<◌, ◌≤◌, true, false, List};
-ghost use Rattle.std.specs.Prelude.{Option, Some, None, map, take, ◌++◌, ◌∷◌, [], length};
-ghost use Rattle.std.specs.Prelude.{leb, sum_by, not, slice_get, option_copied, remove};
+ghost use Rattle.std.specs.Prelude.{Option, Some, None, IfSome, find, map, take, ◌++◌, ◌∷◌, [], length};
+ghost use Rattle.std.specs.Prelude.{leb, ltb, ◌||◌, sum_by, not, slice_get, option_copied, remove};
 ghost use Rattle.std.specs.List.{list_any, position_from};
 ghost use Rattle.profile_image.specs.Words.{without};
 ghost use Rattle.rosters.specs.Numbered.{has_number};
@@ -529,18 +529,33 @@ fn place_behind<T: Numbered>(items: &VecDeque<T>, order: Order, number: u32) -> 
     low
 }
 
-// The place that was lent last, if the first item with this number stands there: who is looked for
-// is often who was changed last. The items are in order but for that one, so it is the first if the
-// one in front of it comes before it.
-fn lent_place<T: Numbered>(items: &VecDeque<T>, notes: &Notes, number: u32) -> Option<usize>
+// Whether the item in front of a place, if there is one, comes before this number.
+fn is_behind<T: Numbered>(items: &VecDeque<T>, order: Order, place: usize, number: u32) -> bool
+    ensures { result ≡ true → (i : ℕ) → i + 1 ≡ place
+        → comes_before order (number_at (map T.number items.now.items) i) (Some number) ≡ true }
+{
+    place == 0 || comes_before(order, number_at(items, place - 1), Some(number))
+}
+
+// The item that was lent last, if it is the first with this number: who is looked for is often who
+// was changed last. The items are in order but for that one, so it is the first if the one in front
+// of it comes before it. It is short, so that it can stand at each place that looks for an item.
+fn lent_found<'a, T: Numbered>(
+    items: &'a VecDeque<T>,
+    notes: &Notes,
+    number: u32,
+) -> Option<(usize, &'a T)>
     requires { AreRight T.Numbered items.now.items notes.now }
-    ensures { (p : ℕ) → result ≡ Some p
-        → position_from (has_number number) 0 (map T.number items.now.items) ≡ Some p }
+    ensures place { IfSome result (λ found.
+        position_from (has_number number) 0 (map T.number items.now.items) ≡ Some found.0) }
+    ensures item { IfSome result (λ found.
+        Some found.1.now ≡ slice_get items.now.items found.0) }
 {
     let place = notes.lent?;
     let order = notes.order?;
-    if is_number(number, number_at(items, place)) && comes_behind(items, order, place) {
-        Some(place)
+    let item = item_at(items, place)?;
+    if is_number(number, item.number()) && is_behind(items, order, place, number) {
+        Some((place, item))
     } else {
         None
     }
@@ -569,6 +584,49 @@ fn place_one_by_one<T: Numbered>(items: &VecDeque<T>, number: u32) -> Option<usi
     items.iter().position(|item| item.number() == Some(number))
 }
 
+// Whether a place is in front of the lent one, or the item there has another number.
+fn is_clear<T: Numbered>(items: &VecDeque<T>, lent: usize, place: usize, number: u32) -> bool
+    ensures { result ≡ true
+        → (ltb place lent || not (has_number number (number_at (map T.number items.now.items) lent)))
+        ≡ true }
+{
+    place < lent || !is_number(number, number_at(items, lent))
+}
+
+// Where the first item with this number stands, if it is another than the one lent last and the
+// numbers from the front up to it are all there.
+fn near_place<T: Numbered>(items: &VecDeque<T>, notes: &Notes, number: u32) -> Option<usize>
+    requires { AreRight T.Numbered items.now.items notes.now }
+    ensures { (p : ℕ) → result ≡ Some p
+        → position_from (has_number number) 0 (map T.number items.now.items) ≡ Some p }
+{
+    let order = notes.order?;
+    let lent = notes.lent?;
+    let near = distance(order, number_at(items, 0), number) as usize;
+    if near != lent
+        && is_number(number, number_at(items, near))
+        && is_clear(items, lent, near, number)
+    {
+        Some(near)
+    } else {
+        None
+    }
+}
+
+// Where the first item with this number stands, whichever was lent last.
+fn place_of_any<T: Numbered>(items: &VecDeque<T>, notes: &Notes, number: u32) -> Option<usize>
+    requires { AreRight T.Numbered items.now.items notes.now }
+    ensures { result ≡ position_from (λ x. has_number number (T.number x)) 0 items.now.items }
+{
+    if let Some(place) = near_place(items, notes, number) {
+        return Some(place);
+    }
+    match whole_order(items, notes) {
+        Some(order) => place_in_order(items, order, number),
+        None => place_one_by_one(items, number),
+    }
+}
+
 // Where the first item with this number stands.
 pub(crate) fn place_of<T: Numbered>(
     items: &VecDeque<T>,
@@ -578,12 +636,37 @@ pub(crate) fn place_of<T: Numbered>(
     requires { AreRight T.Numbered items.now.items notes.now }
     ensures { result ≡ position_from (λ x. has_number number (T.number x)) 0 items.now.items }
 {
-    if let Some(place) = lent_place(items, notes, number) {
-        return Some(place);
+    match lent_found(items, notes, number) {
+        Some((place, _)) => Some(place),
+        None => place_of_any(items, notes, number),
     }
-    match whole_order(items, notes) {
-        Some(order) => place_in_order(items, order, number),
-        None => place_one_by_one(items, number),
+}
+
+// The first item with this number, whichever was lent last.
+fn find_any<'a, T: Numbered>(items: &'a VecDeque<T>, notes: &Notes, number: u32) -> Option<&'a T>
+    requires { AreRight T.Numbered items.now.items notes.now }
+    ensures { option_copied result
+        ≡ find (λ x. has_number number (T.number x)) items.now.items }
+{
+    match place_of_any(items, notes, number) {
+        Some(place) => item_at(items, place),
+        None => None,
+    }
+}
+
+// The first item with this number, if it is there.
+pub(crate) fn found<'a, T: Numbered>(
+    items: &'a VecDeque<T>,
+    notes: &Notes,
+    number: u32,
+) -> Option<&'a T>
+    requires { AreRight T.Numbered items.now.items notes.now }
+    ensures { option_copied result
+        ≡ find (λ x. has_number number (T.number x)) items.now.items }
+{
+    match lent_found(items, notes, number) {
+        Some((_, item)) => Some(item),
+        None => find_any(items, notes, number),
     }
 }
 

@@ -1,8 +1,9 @@
 """Evaluates definitions of the crates as they stand in their .antt files.
 
-A definition becomes a Python function when it is first called; `antt_library` says what values are. A name is what the `use`
-lines of its file say; a constant of the code is read from the crate's source. Types are looked at only for how many arguments a
-definition takes. A form or a name that is not known is an error that names it. Nothing is proved here.
+A definition becomes a Python function when it is first called, or is taken from what `kept` has; `antt_library` says what values
+are. A name is what the `use` lines of its file say; a constant of the code is read from the crate's source. Types are looked at
+only for how many arguments a definition takes. A form or a name that is not known is an error that names it. Nothing is proved
+here.
 """
 import functools
 import os
@@ -11,6 +12,7 @@ import sys
 
 sys.path.insert(0, os.path.dirname(os.path.abspath(__file__)))
 from antt_library import B, NONE, TREES, Con, ExpressionNode, Fn, Rec, SequenceNode, ap, quotient, sub, tail    # noqa: E402, F401
+from kept import Functions, python_name    # noqa: E402
 
 sys.setrecursionlimit(10**9)
 
@@ -80,9 +82,8 @@ def outer(toks):
 
 class Module:
     """The names of a file of definitions: what each means there, and the definitions that it has."""
-    def __init__(self, name):
-        self.name = name
-        self.py = re.sub(r"\W", "_", name)
+    def __init__(self, name, is_file):
+        self.name, self.is_file = name, is_file
         self.clear()
     def clear(self): self.names, self.alias, self.defs, self.types, self.signatures = {}, {}, {}, {}, {}
     def meaning(self, n):
@@ -109,11 +110,15 @@ def path_of(name):
 def load(name, text=None):
     """The module of this name; its text is that of its file where none is given."""
     if name in MODULES: return MODULES[name]
+    m = Module(name, text is None)
     if text is None:
         with open(path_of(name), encoding="utf-8") as f: text = f.read()
-    m = MODULES[name] = Module(name)
+    MODULES[name] = m
     read(m, text)
     return m
+
+
+FUNCTIONS = Functions(ROOT, GLOBALS, load)
 
 
 def forget(name):
@@ -124,6 +129,7 @@ def forget(name):
 def reload(name, text):
     """Gives a loaded module another text. What others compiled calls its functions by their names, so that it sees the
     new ones; only what was computed once is forgotten."""
+    if FUNCTIONS.kept: raise ValueError(f"another text of {name}, where what its file says is kept")
     m = load(name)
     arities = {n: d.k for n, d in m.defs.items()}
     m.clear()
@@ -136,9 +142,10 @@ def reload(name, text):
 
 def definition(module, name):
     """A definition, as a function of all its arguments at once, or its value where it has none."""
-    d = load(module).defs[name]
-    if d.k == 0: return GLOBALS[d.py]()
-    return lambda *arguments: ap(Fn(d.k, GLOBALS[d.py]), *arguments)
+    py, arities = python_name(module, name), FUNCTIONS.arities
+    k = load(module).defs[name].k if module in MODULES or py not in arities and not FUNCTIONS.restored(py) else arities[py]
+    if k == 0: return GLOBALS[py]()
+    return lambda *arguments: ap(Fn(k, GLOBALS[py]), *arguments)
 
 
 # the operators that crates define
@@ -337,8 +344,8 @@ class Def:
     """A definition by its clauses. It is compiled when it is first called, and one without arguments is computed once."""
     def __init__(self, m, name, section, chunks):
         self.m, self.name, self.section, self.chunks = m, name, section, chunks
-        plain = {"◌▷◌": "then_step", "◌▶◌": "then_move", "◌>>=◌": "bind", "◌>>◌": "then"}.get(name, name)
-        self.py = "G_" + m.py + "_" + re.sub(r"\W", lambda x: f"_q{ord(x[0]):x}", plain)
+        self.py = python_name(m.name, name)
+        FUNCTIONS.read[self.py] = m.name
         self.parameters = tuple(n for s in section for n in s[2])
         self.anew()
     @functools.cached_property
@@ -378,6 +385,7 @@ class Def:
         return GLOBALS[self.py](*args)
     def compile(self):
         self.compiled = True
+        if self.m.is_file and FUNCTIONS.restored(self.py): return
         params = [f"a{i}" for i in range(self.k)]
         lines = [f"def {self.py}({', '.join(params)}):"]
         for pats, (_, rhs) in zip(self.pats, self.clauses):
@@ -395,14 +403,10 @@ class Def:
             p.body(env, params[len(pats):], lines, ind)
             if p.i != len(rhs): raise SyntaxError(f"rest {rhs[p.i:p.i+8]} of {self.name} in {self.m.name}")
         lines.append(f"    raise MatchError({self.py!r}, {', '.join(params)})")
-        lines = in_turns(self.py, params, lines)
-        exec(compile("\n".join(lines), self.py, "exec"), GLOBALS)
-        if self.k == 0:
-            f = GLOBALS[self.py]; cell = []
-            def once():
-                if not cell: cell.append(f())
-                return cell[0]
-            GLOBALS[self.py] = once
+        text = "\n".join(in_turns(self.py, params, lines))
+        code = compile(text, self.py, "exec")
+        if self.m.is_file: FUNCTIONS.keep(self.py, self.k, text, code)
+        FUNCTIONS.install(self.py, self.k, code)
 
 
 def in_turns(py, params, lines):

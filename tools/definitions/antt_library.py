@@ -1,7 +1,7 @@
 """The values of definitions, and the words of the standard library on them.
 
 Constructors are `Con`, records and pairs `Rec`, functions that still want arguments `Fn`; lists are tuples, or the `Tail` of a
-long one; texts are their bytes, numbers and truth values Python's own.
+long one, or a long one that is `Grown`; texts are their bytes, numbers and truth values Python's own.
 """
 
 
@@ -56,8 +56,36 @@ class Tail:
     def __repr__(self): return repr(self.l[self.i:])
 
 
+class Grown:
+    """A long list to whose end items are put one by one, without a copy of it for each: the first n items of a list of Python's
+    own, to which items are only ever added. What is made of it with others is a tuple again."""
+    __slots__ = ("l", "n", "copy")
+    def __init__(self, l): self.l = l; self.n = len(l); self.copy = None
+    def whole(self):
+        if self.copy is None: self.copy = tuple(self.l[:self.n])
+        return self.copy
+    def __len__(self): return self.n
+    def __iter__(self): return iter(self.whole())
+    def __getitem__(self, n): return self.l[n] if n.__class__ is int and 0 <= n < self.n else self.whole()[n]
+    def __add__(self, other): return (*self, *other)
+    def __radd__(self, other): return (*other, *self)
+    def __eq__(self, other): return self.whole() == (other.whole() if other.__class__ is Grown else other)
+    def __hash__(self): return hash(self.whole())
+    def __repr__(self): return repr(self.whole())
+
+
+def inserted(l, n, x):
+    """A list with x at place n."""
+    if n < max(len(l), 100): return l[:n] + (x,) + l[n:]
+    # (another list may have been made longer than this one before)
+    if l.__class__ is not Grown or l.n != len(l.l): return Grown([*l, x])
+    l.l.append(x)
+    return Grown(l.l)
+
+
 def tail(l, n):
     """A list without its first n items."""
+    if l.__class__ is Grown: l = l.whole()
     if len(l) - n < 100: return l[n:]
     return Tail(l, n) if l.__class__ is tuple else Tail(l.l, l.i + n)
 
@@ -159,7 +187,7 @@ def _inside(kind, f, x):
     """The nodes of this kind in x folded."""
     c = x.__class__
     if c is kind: return ap(f, Rec({k: _inside(kind, f, v) for k, v in x.d.items()}))
-    if c is tuple or c is Tail: return tuple(_inside(kind, f, y) for y in x)
+    if c is tuple or c is Tail or c is Grown: return tuple(_inside(kind, f, y) for y in x)
     if c is Con: return Con(x.n, tuple(_inside(kind, f, y) for y in x.a)) if x.a else x
     if c is Rec or c is SequenceNode: return c({k: _inside(kind, f, v) for k, v in x.d.items()})
     return x
@@ -174,7 +202,7 @@ B = {
  "int_div": (2, _div), "int_rem": (2, lambda a, b: a - b*_div(a, b)),
  "neg_ℤ": (1, lambda a: -a), "nat_abs": (1, abs), "max": (2, max), "min": (2, min),
  "take": (2, lambda n, l: l[:n]), "drop": (2, lambda n, l: tail(l, n)), "reverse": (1, lambda l: l[::-1]),
- "insert": (3, lambda l, n, x: l[:n] + (x,) + l[n:]),
+ "insert": (3, inserted),
  "replicate": (2, lambda n, x: (x,)*n), "map": (2, lambda f, l: tuple(ap(f, x) for x in l)),
  "filter": (2, lambda f, l: tuple(x for x in l if ap(f, x))), "find": (2, _find), "position": (2, _position),
  "slice_index_or": (3, lambda l, n, d: l[n] if n < len(l) else d), "slice_index": (2, lambda l, n: l[n] if n < len(l) else 0),

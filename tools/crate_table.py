@@ -1,13 +1,14 @@
 #!/usr/bin/env python3
-"""Writes the tables of docs/CRATES.md from crates.txt and the crates.
+"""Writes the lists of docs/CRATES.md from crates.txt and the crates.
 
-    tools/crate_table.py            writes them
-    tools/crate_table.py --check    says whether they are what it would write; status 1 if not
+    tools/crate_table.py              writes them
+    tools/crate_table.py --check      says whether they are what it would write; status 1 if not
+    tools/crate_table.py --follows    prints which files of definitions each crate follows
 
-A group is a comment of crates.txt. A crate's line is the first paragraph of its root file, `src/lib.rt` or `src/main.rt`,
-without the sentences that many crates share; the head of docs/CRATES.md says them once. The last column names the files of
-definitions that the crate follows: a definition there has the name of one of its functions, whose contract cites it. What
-stands around the tables in docs/CRATES.md is written by hand."""
+A group is a comment of crates.txt. A crate's line is the beginning of its root file, `src/lib.rt` or `src/main.rt`, up to the
+first period, semicolon or colon, without clauses of the standard; what stands before a colon is kept with what is behind it if
+it has three words at most. A crate follows a file of definitions if a definition there has the name of one of its functions,
+whose contract cites it. What stands around the lists in docs/CRATES.md is written by hand."""
 import collections
 import pathlib
 import re
@@ -19,13 +20,6 @@ CRATES = TOP / "crates"
 PAGE = TOP / "docs" / "CRATES.md"
 BEGIN, END = "<!-- begin: made by tools/crate_table.py -->\n", "<!-- end -->\n"
 
-SHARED = [
-    r"Each function has the name of (?:the|a) (?:machine's )?definition (?:of `\w+` )?of which it is the counterpart\.",
-    r"A number that its type cannot hold is answered as want of memory\.",
-    r"Each is the contract of a function that does nothing\.",
-    r"(?:A law|Each law) is the contract of a function that does nothing\.",
-    r"The calls do nothing: their contracts are [^.]*\.",
-]
 IMPORT = re.compile(r"ghost use Rattle\.(\w+)\.specs\.(\w+)\.\{([^}]*)\}")
 FUNCTION = re.compile(r"^\s*(?:pub(?:\(crate\))? )?fn (\w+)", re.MULTILINE)
 
@@ -58,12 +52,17 @@ def first_paragraph(text):
     return " ".join(lines)
 
 
-def sentence_of(crate):
+def beginning(text):
+    """What a paragraph begins with, as the line of a crate."""
+    text = re.sub(r" \((?=[^()]*\d)[^()]*\)", "", text.replace("ISO/IEC 8652:2012, ", ""))
+    sentence = re.split(r"\. (?=[A-Z`])|; ", text.rstrip("."))[0]
+    before, _, behind = sentence.partition(": ")
+    return sentence if behind and len(before.split()) <= 3 else before
+
+
+def line_of(crate):
     file = root_file(crate)
-    text = first_paragraph(file.read_text()) if file else ""
-    for shared in SHARED:
-        text = re.sub(r"\s*" + shared, "", text)
-    return text.replace("ISO/IEC 8652:2012, ", "").replace("|", "\\|").strip()
+    return f"- `{crate}`: {beginning(first_paragraph(file.read_text())) if file else ''}"
 
 
 def followed(crate):
@@ -79,12 +78,15 @@ def followed(crate):
     return "; ".join(f"`{owner}`: {', '.join(sorted(found[owner]))}" for owner in sorted(found))
 
 
+def follows():
+    lines = [(crate, followed(crate)) for _, crates in groups((TOP / "crates.txt").read_text()) for crate in crates]
+    return "\n".join(f"{crate}: {files}" for crate, files in lines if files)
+
+
 def tables():
     lines = []
     for title, crates in groups((TOP / "crates.txt").read_text()):
-        lines += ["", f"### {title[0].upper()}{title[1:]}", "", "| crate | what it holds | definitions that it follows |", "|---|---|---|"]
-        for crate in crates:
-            lines.append(f"| `{crate}` | {sentence_of(crate)} | {followed(crate)} |")
+        lines += ["", f"### {title[0].upper()}{title[1:]}", "", *map(line_of, crates)]
     edited = sorted(folder.parent.name for folder in CRATES.glob("*/must-fail"))
     told = "Must-fail edits stand in " + ", ".join(f"`{crate}`" for crate in edited) + "."
     lines += ["", *textwrap.wrap(told, 140, break_on_hyphens=False), ""]
@@ -99,9 +101,12 @@ def page_with(text, made):
 
 
 def main(words):
-    if words not in ([], ["--check"]):
+    if words not in ([], ["--check"], ["--follows"]):
         print(__doc__.split("\n\n")[1], file=sys.stderr)
         return 2
+    if words == ["--follows"]:
+        print(follows())
+        return 0
     text = PAGE.read_text()
     if BEGIN not in text or END not in text:
         print(f"docs/CRATES.md lacks the line {BEGIN.strip()} or {END.strip()}", file=sys.stderr)

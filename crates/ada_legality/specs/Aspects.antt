@@ -14,14 +14,13 @@ use Rattle.ada_legality.specs.declared.reading.Typed.{Typed}
 use Rattle.ada_legality.specs.declared.standing.Known.{Known}
 use Rattle.ada_regions.specs.Statics.{static_value}
 use Rattle.ada_regions.specs.Words.{and_then, entry_named}
-use Rattle.std.specs.Option.{option_or}
 use Rattle.ada_regions.specs.declared.table.Names.{Names}
 use Rattle.ada_tree.specs.declared.declarations.Aspect.{Aspect}
 use Rattle.ada_tree.specs.declared.expressions.Expression.{Expression}
 use Rattle.ada_tree.specs.declared.names.Identifier.{Identifier}
 use Rattle.ann_base.specs.declared.places.Place.{Place}
 use Rattle.std.specs.List.{list_any}
-use Rattle.std.specs.Prelude.{Bool, List, None, Option, Some, [], codes, cond, eqb, false, find, not}
+use Rattle.std.specs.Prelude.{Bool, List, None, Option, Some, [], codes, cond, false, find, not}
 use Rattle.std.specs.Prelude.{option_map, pos, suc, take, true, unwrap_or, ℕ, ℤ, ◌&&◌, ◌++◌, ◌||◌, ◌∷◌}
 use Rattle.profile_image.specs.declared.limits.TheConstants.{LAST_OUTSIDE_LINE}
 use Rattle.ada_legality.specs.declared.parts.AspectName.TheVariants as aspect_is
@@ -266,10 +265,14 @@ aspects_found on place aspects k =
 
 -- ---- the priority that is stated: at its aspect
 
--- the aspect that gives a priority
+-- an aspect, where its value is one of its subtype
+unfoldable pub if_priority_value : ℕ → AspectPart → Option AspectPart
+if_priority_value last a = cond (is_priority_value last a.name a.number) (Some a) None
+
+-- the aspect that gives a priority: the first of such a name, unless its value is refused
 unfoldable pub priority_aspect : ℕ → List AspectPart → Option AspectPart
 priority_aspect last aspects =
-    find (λ a. is_priority_name a.name && is_priority_value last a.name a.number) aspects
+    and_then (find (λ a. is_priority_name a.name) aspects) (if_priority_value last)
 
 -- the priority that aspects give
 unfoldable pub stated_value : ℕ → List AspectPart → Option ℤ
@@ -280,26 +283,7 @@ unfoldable pub place_of_priority : ℕ → List AspectPart → Place → Place
 place_of_priority last aspects place =
     unwrap_or (option_map (λ a. a.place) (priority_aspect last aspects)) place
 
--- the level of the first aspect of this name
-unfoldable pub level_named : (AspectName → Bool) → List AspectPart → Option ℕ
-level_named test aspects = and_then (find (λ a. test a.name) aspects) (λ a. a.level)
-
--- Priority, and Interrupt_Priority
-abbrev pub is_plain_priority : AspectName → Bool
-is_plain_priority aspect_is.Priority = true
-is_plain_priority name = false
-
--- Interrupt_Priority
-abbrev pub is_interrupt_priority : AspectName → Bool
-is_interrupt_priority aspect_is.InterruptPriority = true
-is_interrupt_priority name = false
-
--- the priority that the image would have
-unfoldable pub stated_level : List AspectPart → Option ℕ
-stated_level aspects =
-    option_or (level_named is_plain_priority aspects) (level_named is_interrupt_priority aspects)
-
 -- a priority that is not the highest
-abbrev pub is_other_ceiling : ℕ → Option ℕ → Bool
+unfoldable pub is_other_ceiling : ℕ → Option ℤ → Bool
 is_other_ceiling last None = false
-is_other_ceiling last (Some n) = not (eqb n (suc last))
+is_other_ceiling last (Some z) = not (lies_between (pos (suc last)) (pos (suc last)) (Some z))

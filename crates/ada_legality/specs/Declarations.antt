@@ -1,6 +1,6 @@
 -- What is found in declarations and bodies (clauses 3, 6, 7, 9, 11).
 use Rattle.ada_image.specs.UnitsOfImage.{entries_of, has_one_of_type}
-use Rattle.ada_legality.specs.Aspects.{aspects_found, is_other_ceiling, place_of_priority, stated_level, stated_value}
+use Rattle.ada_legality.specs.Aspects.{aspects_found, is_other_ceiling, place_of_priority, stated_value}
 use Rattle.ada_legality.specs.Attributes.{is_library_entity, is_own_entry, kind_of_identifier}
 use Rattle.ada_legality.specs.CallStatements.{all_found, beyond, bounds_judged, found_if, indication_found}
 use Rattle.ada_legality.specs.CallStatements.{parameters_found, type_of_mark, value_alone_found, value_found}
@@ -468,7 +468,7 @@ other_ceiling_noted is_other place unit = []
 -- the ceiling of a protected unit
 unfoldable pub ceiling_noted : ℕ → List AspectPart → Place → Option ℕ → Found
 ceiling_noted last aspects place unit =
-    other_ceiling_noted (is_other_ceiling last (stated_level aspects)) place unit
+    other_ceiling_noted (is_other_ceiling last (stated_value last aspects)) place unit
     ++ finding.Ceiling (record {
       unit = unit;
       stated = stated_value last aspects;

@@ -24,9 +24,7 @@ pub use distinct::{others_not_last, repeated_choices};
 pub use literals::{number_of_literal, number_of_negative};
 pub use numbers::{lies_between, number_of_value, same_number};
 pub use owners::{attaches_again, attaches_to, may_be_attached};
-pub use priorities::{
-    is_other_ceiling, place_of_priority, stands_before_attach, stated_level, stated_value,
-};
+pub use priorities::{is_other_ceiling, place_of_priority, stands_before_attach, stated_value};
 pub use ranges::{range_typed, whole_range_of};
 pub use spans::{ends_of, meet, span};
 pub use statics::{number_of_expression, static_number};

@@ -3,8 +3,7 @@ ghost use Rattle.std.specs.Prelude.{◌≡◌, ◌&&◌, find, option_copied};
 ghost use Rattle.ada_legality.specs.Aspects.{is_attach_name, is_cpu_name, is_deadline_name};
 ghost use Rattle.ada_legality.specs.Aspects.{is_priority_name, is_priority_value, stands_before_in};
 ghost use Rattle.ada_legality.specs.Aspects.{priority_aspect, stated_value, place_of_priority};
-ghost use Rattle.ada_legality.specs.Aspects.{level_named, is_plain_priority, is_interrupt_priority};
-ghost use Rattle.ada_legality.specs.Aspects.{stated_level, is_other_ceiling};
+ghost use Rattle.ada_legality.specs.Aspects.{if_priority_value, is_other_ceiling};
 
 use crate::lies_between;
 use crate::owners::{is_attach_name, is_cpu_name, is_deadline_name, is_priority_name};
@@ -55,21 +54,24 @@ pub fn stands_before_attach(before: &[AspectPart]) -> bool
     before.iter().any(|aspect| is_attach_name(aspect.name))
 }
 
-/// An aspect gives a priority of its subtype.
-fn gives_priority(last: u8, aspect: &AspectPart) -> bool
-    ensures { result
-        ≡ (is_priority_name aspect.now.name
-        && is_priority_value last aspect.now.name aspect.now.number) }
+/// The first aspect of a priority's name.
+fn first_priority(aspects: &[AspectPart]) -> Option<&AspectPart>
+    ensures { option_copied result ≡ find (λ a. is_priority_name a.name) aspects.now }
 {
-    is_priority_name(aspect.name) && is_priority_value(last, aspect.name, aspect.number)
+    aspects.iter().find(|aspect| is_priority_name(aspect.name))
 }
 
-/// The aspect that gives a priority.
-#[tactic(auto, unfolding(ada_legality::specs::Aspects::priority_aspect))]
+/// The aspect that gives a priority: the first of such a name, unless its value is refused.
+#[tactic(auto, unfolding(ada_legality::specs::Aspects::priority_aspect, ada_legality::specs::Aspects::if_priority_value))]
 fn priority_aspect(last: u8, aspects: &[AspectPart]) -> Option<&AspectPart>
     ensures { option_copied result ≡ priority_aspect last aspects.now }
 {
-    aspects.iter().find(|aspect| gives_priority(last, aspect))
+    let aspect = first_priority(aspects)?;
+    if is_priority_value(last, aspect.name, aspect.number) {
+        Some(aspect)
+    } else {
+        None
+    }
 }
 
 /// The priority that aspects give.
@@ -92,75 +94,14 @@ pub fn place_of_priority(last: u8, aspects: &[AspectPart], place: Place) -> Plac
     }
 }
 
-fn is_plain_priority(name: AspectName) -> bool
-    ensures { result ≡ is_plain_priority name }
-{
-    match name {
-        AspectName::Priority => true,
-        _ => false,
-    }
-}
-
-fn is_interrupt_priority(name: AspectName) -> bool
-    ensures { result ≡ is_interrupt_priority name }
-{
-    match name {
-        AspectName::InterruptPriority => true,
-        _ => false,
-    }
-}
-
-/// The first Priority.
-fn first_plain(aspects: &[AspectPart]) -> Option<&AspectPart>
-    ensures { option_copied result ≡ find (λ a. is_plain_priority a.name) aspects.now }
-{
-    aspects.iter().find(|aspect| is_plain_priority(aspect.name))
-}
-
-/// The level of the first Priority.
-#[tactic(auto, unfolding(ada_legality::specs::Aspects::level_named))]
-fn plain_level(aspects: &[AspectPart]) -> Option<u32>
-    ensures { result ≡ level_named is_plain_priority aspects.now }
-{
-    let aspect = first_plain(aspects)?;
-    aspect.level
-}
-
-/// The first Interrupt_Priority.
-fn first_interrupt(aspects: &[AspectPart]) -> Option<&AspectPart>
-    ensures { option_copied result ≡ find (λ a. is_interrupt_priority a.name) aspects.now }
-{
-    aspects
-        .iter()
-        .find(|aspect| is_interrupt_priority(aspect.name))
-}
-
-/// The level of the first Interrupt_Priority.
-#[tactic(auto, unfolding(ada_legality::specs::Aspects::level_named))]
-fn interrupt_level(aspects: &[AspectPart]) -> Option<u32>
-    ensures { result ≡ level_named is_interrupt_priority aspects.now }
-{
-    let aspect = first_interrupt(aspects)?;
-    aspect.level
-}
-
-/// The priority that the image would have.
-#[tactic(auto, unfolding(ada_legality::specs::Aspects::stated_level))]
-pub fn stated_level(aspects: &[AspectPart]) -> Option<u32>
-    ensures { result ≡ stated_level aspects.now }
-{
-    match plain_level(aspects) {
-        Some(level) => Some(level),
-        None => interrupt_level(aspects),
-    }
-}
-
 /// A priority that is not the highest.
-pub fn is_other_ceiling(last: u8, level: Option<u32>) -> bool
-    ensures { result ≡ is_other_ceiling last level }
+#[tactic(auto, unfolding(ada_legality::specs::Aspects::is_other_ceiling))]
+pub fn is_other_ceiling(last: u8, stated: Option<Number>) -> bool
+    ensures { result ≡ is_other_ceiling last stated }
 {
-    match level {
+    let highest = i64::from(last) + 1;
+    match stated {
         None => false,
-        Some(level) => level != u32::from(last) + 1,
+        Some(number) => !lies_between(highest, highest, Some(number)),
     }
 }

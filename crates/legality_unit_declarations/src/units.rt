@@ -10,7 +10,7 @@ ghost use Rattle.legality_unit_declarations.specs.ProtectedParts.{protected_part
 use ada_legality::{AspectOwner, AspectPart, BodyKind, Ceiling, Finding, Known};
 use ada_tree::{Component, Identifier, ProtectedDeclaration, ProtectedOperation, TaskDeclaration};
 use ann_base::{NoMemory, Place};
-use legality_choices::{is_other_ceiling, place_of_priority, stated_level, stated_value};
+use legality_choices::{is_other_ceiling, place_of_priority, stated_value};
 use legality_conditions::cells_noted;
 use legality_declarations::{entries_found, entry_found, protected_components_found};
 use legality_parts::aspects_found;
@@ -153,7 +153,7 @@ fn ceiling_noted(
 ) -> Result<(), NoMemory>
     ensures { OnOk result (found.new ≡ found.old ++ ceiling_noted last aspects.now place unit) }
 {
-    let is_other = is_other_ceiling(last, stated_level(aspects));
+    let is_other = is_other_ceiling(last, stated_value(last, aspects));
     other_ceiling_noted(found, is_other, place, unit)?;
     note(
         found,

@@ -58,6 +58,7 @@ def ended(tool, main):
     try:
         status = main()
         sys.stdout.flush()
+        on_interrupt(signal.SIG_IGN)  # (all is told)
     except KeyboardInterrupt:
         end_process(f"{tool}: interrupted")
     except BrokenPipeError:

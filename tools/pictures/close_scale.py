@@ -4,11 +4,12 @@ from dataclasses import dataclass
 
 from pictures.reading import by_number, chosen
 from pictures.svg import (
-    BAND, BLOCKED, FAULT, GRID, INK, LEAVING, LETTER, MADE, OBJECTS, RUNNING, SIGNS, SOFT, STATE_SAYS,
-    arrow, box, legend, line, over_others, page_of, sign, text_at,
+    BAND, BLOCKED, BOLD, FAULT, GRID, INK, LEAVING, LETTER, MADE, OBJECTS, RUNNING, SIGNS, SOFT, STATE_SAYS,
+    arrow, box, column_of_names, legend, line, name_at, over_others, page_of, sign, stands_in_bar, text_at,
 )
 
-LABELS_WIDTH = 150  # the column of the lanes' names, in pixels
+LABELS_WIDTH = 150  # the column of the lanes' names, in pixels; it is wider where these need it
+LONG_NAME = 13  # the letters of a name for which that column has room
 ROW_WIDTH = 1060  # the ticks of one row
 MARGIN = 18
 BAR = 18  # the height of a bar
@@ -18,6 +19,7 @@ AXIS = 24
 CUT_LINE = 13  # the line below the axis that tells how many ticks are left out
 ROW_GAP = 26
 BREAK_WIDTH = 64  # a stretch that is cut
+LEVEL_OF_READY = "#6b4e00"  # the colour of a level in the bar of a task that is ready
 LONGEST = 40  # ticks; a longer stretch may be cut
 
 
@@ -39,6 +41,7 @@ class Row:
     """The pieces of one row of the picture."""
 
     pieces: list
+    left: float
     is_last: bool = False
 
     @property
@@ -50,7 +53,7 @@ class Row:
         return self.pieces[-1].end
 
     def x(self, tick):
-        at = LABELS_WIDTH
+        at = self.left
         for piece in self.pieces:
             if tick <= piece.end:
                 return at + piece.width * max(0, tick - piece.first) / (piece.end - piece.first)
@@ -61,8 +64,8 @@ class Row:
         return self.first <= tick < self.end or (self.is_last and tick == self.end)
 
 
-def rows_of(ticks):
-    """The rows of a picture in which something happens at these ticks, and the width of a tick."""
+def rows_of(ticks, left):
+    """The rows of a picture in which something happens at these ticks, beginning at this place, and the width of a tick."""
     ticks = sorted(ticks)
     if len(ticks) == 1:
         ticks.append(ticks[0] + 1)
@@ -77,18 +80,18 @@ def rows_of(ticks):
             pieces.append(Piece(first, first + gap, BREAK_WIDTH, True))
         else:
             pieces += split(first, gap, scale)
-    rows = balanced(pieces)
+    rows = [Row(it, left) for it in balanced(pieces)]
     rows[-1].is_last = True
     return rows, scale
 
 
 def balanced(pieces):
-    """As few rows as will do, of about the same width."""
+    """The pieces in as few rows as will do, of about the same width."""
     fewest = len(packed(pieces, ROW_WIDTH))
     limit = sum(piece.width for piece in pieces) / fewest
     while limit < ROW_WIDTH and len(packed(pieces, limit)) > fewest:
         limit += 10
-    return [Row(it) for it in packed(pieces, min(limit, ROW_WIDTH))]
+    return packed(pieces, min(limit, ROW_WIDTH))
 
 
 def packed(pieces, limit):
@@ -155,11 +158,14 @@ class Drawing:
 
     def __init__(self, picture, first, end, wanted=None):
         self.picture = picture
-        self.rows, self.scale = rows_of(ticks_between(picture, first, end))
         self.names = chosen(picture, by_number(picture), wanted)
+        self.most, wider = column_of_names([picture.lanes[it].words for it in self.names], LONG_NAME)
+        self.left = LABELS_WIDTH + wider
+        self.rows, self.scale = rows_of(ticks_between(picture, first, end), self.left)
         objects = [it for it in by_number(picture) if it.startswith("p")]
         self.colours = {it: OBJECTS[number % len(OBJECTS)] for number, it in enumerate(objects)}
-        self.out, self.details = [], []
+        self.out = []
+        self.details, self.words = [], []  # of a row: what tasks wait for, and levels and holders
         self.used = set()
         self.width = max(640, 50 + round(max(row.x(row.end) for row in self.rows)))
 
@@ -206,10 +212,12 @@ class Drawing:
         for piece in row.pieces:
             if piece.is_cut:
                 self.draw_break((row.x(piece.first) + row.x(piece.end)) / 2, y + AXIS + CUT_LINE, at)
-        self.out += over_others(self.details)
-        self.details = []
         for lane in lanes:
-            self.draw_marks(lane, row, tops[lane.name], labels[lane.name])
+            self.draw_signs(lane, row, tops[lane.name], labels[lane.name])
+        # words come last, so that nothing covers them
+        self.out += over_others([*self.details, *(text for lane in lanes for text in self.labels_at(tops[lane.name], labels[lane.name]))])
+        self.out += self.words
+        self.details, self.words = [], []
         return at
 
     def draw_break(self, x, top, bottom):
@@ -240,7 +248,7 @@ class Drawing:
                         last = row.x(tick)
                         self.out.append(line(last, y, last, bottom, GRID))
                         self.out.append(text_at(last, y - 3, str(tick), SOFT, 10, "middle"))
-        self.out.append(line(LABELS_WIDTH, y, row.x(row.end), y, SOFT, 0.8))
+        self.out.append(line(self.left, y, row.x(row.end), y, SOFT, 0.8))
 
     def draw_cut(self, row, piece, y, bottom):
         """A stretch that is left out: its ends are told, and how many ticks there are between."""
@@ -249,7 +257,9 @@ class Drawing:
         self.out.append(text_at((first + end) / 2, y + 11, f"{piece.end - piece.first} ticks", SOFT, 9, "middle"))
         for x in (first + 5, end - 5):
             self.out.append(line(x, y, x, bottom, BLOCKED, 0.8, 'stroke-dasharray="2 3"'))
-        self.out.append(text_at(end, y - 3, str(piece.end), SOFT, 10, "middle"))
+        ends = [(end, piece.end)] if row.pieces[0] is not piece else [(first, piece.first), (end, piece.end)]
+        for x, tick in ends:
+            self.out.append(text_at(x, y - 3, str(tick), SOFT, 10, "middle"))
         self.used.add("cut")
         return end
 
@@ -263,16 +273,18 @@ class Drawing:
     def draw_lane(self, lane, row, top):
         name, _, rest = lane.title.partition(" ")
         self.out.append(text_at(MARGIN, top + 8, name, self.colours.get(lane.name, INK), 12, weight="bold"))
-        self.out.append(text_at(MARGIN + 44, top + 7, rest if len(rest) < 17 else rest[:15] + "...", INK, 10.5))
+        self.out.append(name_at(MARGIN + 44, top + 7, rest, self.most, 10.5))
         self.out.append(text_at(MARGIN + 44, top + 18, lane.note, SOFT, 9.5))
         if lane.name[0] in "ps":
-            self.out.append(line(LABELS_WIDTH, top + BAR, row.x(row.end), top + BAR, MADE, 0.7))
+            self.out.append(line(self.left, top + BAR, row.x(row.end), top + BAR, MADE, 0.7))
         shown = None
         for bar in lane.bars:
             first, end = max(bar.first, row.first), min(bar.end, row.end)
             if first < end:
-                self.draw_bar(lane, bar, row.x(first), row.x(end), top, bar.level != shown or bar.first < row.first)
-                shown = bar.level if bar.state in ("run", "ready") else shown
+                beside = 5 if any(stands_in_bar(mark.kind) and mark.tick == first for mark in lane.marks) else 0
+                self.draw_bar(lane, bar, row.x(first), row.x(end), top)
+                if bar.level != shown or bar.first < row.first:
+                    shown = self.level_in(bar, row.x(first), row.x(end), top, beside) or shown
         for first, end, region, why in lane.leavings:
             self.draw_leaving(row, first, end, region, why, top)
         for span in lane.misses:
@@ -282,17 +294,15 @@ class Drawing:
                 says = f"{lane.title} is late, {span.late_from} to {span.end}"
                 self.out.append(box(row.x(first), top + BAR + 1, row.x(end) - row.x(first), 4, FAULT, says))
 
-    def draw_bar(self, lane, bar, x, end, top, tells_level):
+    def draw_bar(self, lane, bar, x, end, top):
         width = end - x
         level = f" at level {bar.level}" if bar.state in ("run", "ready") and bar.level else ""
         says = f"{lane.title} {STATE_SAYS[bar.state]}{level}{': ' + bar.detail if bar.detail else ''}, {bar.first} to {bar.end}"
         self.used.add(bar.state)
         if bar.state == "run":
             self.out.append(box(x, top, width, BAR, RUNNING, says, 'rx="2"'))
-            self.level_in(bar, x, width, top, "white", tells_level)
         elif bar.state == "ready":
             self.out.append(box(x, top + 3, width, BAR - 6, "url(#ready)", says, 'rx="2"'))
-            self.level_in(bar, x, width, top, "#6b4e00", tells_level)
         else:
             colour = BLOCKED if bar.state == "block" else MADE
             dashes = "" if bar.state == "block" else 'stroke-dasharray="3 3"'
@@ -301,9 +311,13 @@ class Drawing:
             if width > LETTER * len(bar.detail) + 8 and bar.detail:
                 self.details.append(text_at(x + 4, top + BAR / 2 - 3, bar.detail, SOFT, 9.5))
 
-    def level_in(self, bar, x, width, top, colour, tells_level):
-        if tells_level and width >= 6.2 * len(bar.level) + 3:
-            self.out.append(text_at(x + 3, top + BAR / 2 + 3.8, bar.level, colour, 10.5, weight="bold"))
+    def level_in(self, bar, x, end, top, beside):
+        """Tells the level of a bar that has room for it, beside a sign at its beginning; the answer is what is told."""
+        if bar.state not in ("run", "ready") or end - x < BOLD * len(bar.level) + 3 + beside:
+            return None
+        colour = "white" if bar.state == "run" else LEVEL_OF_READY
+        self.words.append(text_at(x + 3 + beside, top + BAR / 2 + 3.8, bar.level, colour, 10.5, weight="bold"))
+        return bar.level
 
     def draw_leaving(self, row, first, end, region, why, top):
         if end < row.first or first >= row.end and not row.is_last:
@@ -327,19 +341,18 @@ class Drawing:
             opacity = 'fill-opacity="0.45" rx="2"' if action.mode == "read" else 'rx="2"'
             top = tops[action.object]
             self.out.append(box(x, top + 1, end - x, BAR - 2, colour, says, opacity))
-            if end - x > LETTER * len(action.subject) + 4:
-                self.out.append(text_at(x + 3, top + BAR / 2 + 3.8, action.subject, "white", 10.5, weight="bold"))
+            if end - x > BOLD * len(action.subject) + 4:
+                self.words.append(text_at(x + 3, top + BAR / 2 + 3.8, action.subject, "white", 10.5, weight="bold"))
             self.used.add("action")
 
-    def draw_marks(self, lane, row, top, labels):
-        texts = []
-        for x, number, mark in labels.placed:
-            y, colour = top - 4 - LABEL_LINE * number, SIGNS[mark.kind][1]
-            texts.append(text_at(x + 3, y, mark.label, colour, 10))
+    def labels_at(self, top, labels):
+        return [text_at(x + 3, top - 4 - LABEL_LINE * number, mark.label, SIGNS[mark.kind][1], 10) for x, number, mark in labels.placed]
+
+    def draw_signs(self, lane, row, top, labels):
+        for _, number, mark in labels.placed:
             if number:
                 at = row.x(mark.tick)
-                self.out.append(line(at, y + 1, at, top, colour, 0.5, 'stroke-opacity="0.6"'))
-        self.out += over_others(texts)
+                self.out.append(line(at, top - 3 - LABEL_LINE * number, at, top, SIGNS[mark.kind][1], 0.5, 'stroke-opacity="0.6"'))
         for mark in lane.marks:
             if row.holds(mark.tick):
                 self.out.append(sign(mark.kind, row.x(mark.tick), top, top + BAR, f"{mark.tick}: {mark.says or mark.label}"))

@@ -7,7 +7,7 @@ const moments = [...new Set(ticks)];
 const titles = new Map(run.lanes.map((lane) => [lane.name, lane.words]));
 let tick = 0, chosen = 0;
 let from = 0, to = Math.max(run.end, 1);
-const laneHeight = 30;
+const laneHeight = 30, axisHeight = 22;
 
 // ---- small helpers
 
@@ -43,7 +43,10 @@ const atLine = (line) => line ? `, line ${line}` : "";
 function makeSource() {
   run.source.forEach((text, at) => {
     const row = made("li");
-    row.append(made("span", at + 1, "number"), made("span", text || " "), made("span", "", "tag"));
+    const words = made("span", text || " ");
+    words.style.setProperty("--in", `${Math.min(text.search(/\S|$/) + 2, 14)}ch`);
+    words.append(made("span", "", "tag"));
+    row.append(made("span", at + 1, "number"), words);
     row.addEventListener("click", () => goToLineOfSource(at + 1));
     by("source").append(row);
   });
@@ -55,12 +58,15 @@ function makeTrace() {
     const row = made("div");
     row.id = `line-${at}`;
     row.setAttribute("role", "option");
-    row.append(made("span", at + 1, "number"), made("span", text));
-    if (run.lines[at]) row.append(made("span", `${sign[run.how[at]] || ""} ${run.lines[at]}`, "tag"));
+    const words = made("span", text);
+    if (run.lines[at]) words.append(made("span", `${sign[run.how[at]] || ""} ${run.lines[at]}`, "tag"));
+    row.append(made("span", at + 1, "number"), words);
     row.addEventListener("click", () => show(ticks[at], at));
     by("trace").append(row);
   });
 }
+
+const tagOf = (row) => row.querySelector(".tag");
 
 // a line of the source: the next line of the trace that comes from it, or the first one
 function goToLineOfSource(line) {
@@ -123,24 +129,24 @@ function showSource(line, picked) {
   const rows = by("source").children;
   for (const row of by("source").querySelectorAll(".here, .said, .stands")) {
     row.className = "";
-    row.lastChild.textContent = "";
+    tagOf(row).textContent = "";
   }
   // the lines of the source that said something at this tick, then the one that runs
   const said = new Map();
   run.lines.forEach((it, at) => { if (ticks[at] === tick && it && run.how[at] === "a") said.set(it, said.get(it) || run.trace[at].split(" ")[1]); });
   for (const it of said.keys()) {
     rows[it - 1].className = "said";
-    rows[it - 1].lastChild.textContent = "<- acted";
+    tagOf(rows[it - 1]).textContent = "<- acted";
   }
   if (line) {
     rows[line - 1].className = said.has(line) ? "said here" : "here";
-    rows[line - 1].lastChild.textContent = `<- ${fact("run", tick)} runs${said.has(line) ? ", acted" : ""}`;
+    tagOf(rows[line - 1]).textContent = `<- ${fact("run", tick)} runs${said.has(line) ? ", acted" : ""}`;
   }
   const of = ticks[chosen] === tick ? run.lines[chosen] : 0;
   if (of && !rows[of - 1].className) {
     rows[of - 1].className = "stands";
     const who = run.trace[chosen].split(" ")[1];
-    rows[of - 1].lastChild.textContent = titles.has(who) ? `<- ${who} ${run.how[chosen] === "g" ? "goes on" : "stands"}` : "<- from here";
+    tagOf(rows[of - 1]).textContent = titles.has(who) ? `<- ${who} ${run.how[chosen] === "g" ? "goes on" : "stands"}` : "<- from here";
   }
   const [first, second] = picked ? [of, line] : [line, of];
   intoView(by("source"), rows[(first || second) - 1], rows[second - 1]);
@@ -163,10 +169,13 @@ function show(at, line) {
   tick = Math.max(0, Math.min(run.end, Math.round(at) || 0));
   chosen = line ?? Math.max(0, ticks.includes(tick) ? ticks.indexOf(tick) : lastUpTo(ticks, tick, (it) => it));
   by("tick").value = by("slider").value = tick;
-  showTrace();
-  showSource(showState(), line !== undefined);
+  const running = showState();
   if (tick < from || tick > to) look(tick - (to - from) / 2, to - from);
   draw();
+  laneIntoView();
+  // the panes scroll when all else has its height
+  showTrace();
+  showSource(running, line !== undefined);
   history.replaceState(null, "", `#tick=${tick}`);
 }
 
@@ -230,15 +239,15 @@ const DOTS = new Set(["put", "call", "setting", "object", "harm"]);
 // a line with an edge in the colour of the paper, which is seen in a bar too
 function edged(d, stroke, says) {
   const it = shape("g", {}, says);
-  it.append(shape("path", { d, ...stroke, stroke: "var(--paper)", "stroke-width": 4.1 }), shape("path", { d, ...stroke }));
+  it.append(shape("path", { d, ...stroke, stroke: "var(--paper)", "stroke-width": 4.1, class: "edge" }), shape("path", { d, ...stroke }));
   return it;
 }
 
 function sign(kind, x, top, says) {
   const bottom = top + 14, middle = top + 7, colour = COLOURS[kind] || "var(--soft)";
   const stroke = { stroke: colour, "stroke-width": 1.7, fill: "none", "stroke-linecap": "round" };
-  if (kind === "release") return shape("path", { d: `M${x} ${bottom + 3}V${top - 4}M${x - 3.5} ${top + 1}L${x} ${top - 4.5}L${x + 3.5} ${top + 1}`, ...stroke }, says);
-  if (kind === "deadline") return shape("path", { d: `M${x} ${top - 4}V${bottom + 3}M${x - 3.5} ${bottom - 1}L${x} ${bottom + 4}L${x + 3.5} ${bottom - 1}`, ...stroke }, says);
+  if (kind === "release") return edged(`M${x} ${bottom + 3}V${top - 4}M${x - 3.5} ${top + 1}L${x} ${top - 4.5}L${x + 3.5} ${top + 1}`, stroke, says);
+  if (kind === "deadline") return edged(`M${x} ${top - 4}V${bottom + 3}M${x - 3.5} ${bottom - 1}L${x} ${bottom + 4}L${x + 3.5} ${bottom - 1}`, stroke, says);
   if (kind === "miss" || kind === "fault" || kind === "cancel") return edged(`M${x - 4} ${middle - 4}L${x + 4} ${middle + 4}M${x + 4} ${middle - 4}L${x - 4} ${middle + 4}`, stroke, says);
   if (kind === "trigger" || kind === "script") return edged(`M${x + 3} ${top}L${x - 3} ${middle + 1}H${x + 3}L${x - 3} ${bottom}`, stroke, says);
   if (kind === "end") return shape("rect", { x: x - 1.5, y: top - 2, width: 3, height: 18, fill: colour }, says);
@@ -257,6 +266,13 @@ function hatch() {
   return pattern;
 }
 
+// the name of a lane: where it has no room its last part, or the end of that
+function nameOf(lane, most) {
+  if (lane.words === lane.name) return lane.name === "agent" ? "handlers" : "";
+  const last = lane.words.slice(lane.words.lastIndexOf(".") + 1);
+  return [lane.words, last].find((it) => it.length <= most) ?? `..${last.slice(2 - most)}`;
+}
+
 let geometry = { left: 0, scale: 1 };
 
 function draw() {
@@ -267,29 +283,36 @@ function draw() {
   const place = (at) => left + (Math.min(Math.max(at, from), to) - from) * scale;
   const meets = (first, end) => first < to && end > from;
   const height = 26 + run.lanes.length * laneHeight + 6;
-  const svg = shape("svg", { viewBox: `0 0 ${width} ${height}`, height, role: "img", "aria-label": `The picture, ticks ${Math.round(from)} to ${Math.round(to)}` });
+  // the ticks stay in view where the lanes scroll
+  const axis = shape("svg", { class: "axis", viewBox: `0 0 ${width} ${axisHeight}`, height: axisHeight, "aria-hidden": true });
+  const svg = shape("svg", { viewBox: `0 ${axisHeight} ${width} ${height - axisHeight}`, height: height - axisHeight, role: "img", "aria-label": `The picture, ticks ${Math.round(from)} to ${Math.round(to)}` });
+  const texts = [];
+  const inBar = (x, y, text, colour) => texts.push(words(x, y, text, colour, 10.5, { "font-weight": "bold", "pointer-events": "none" }));
   svg.append(hatch());
   const gap = nice(64 / scale);
   for (let at = Math.ceil(from / gap) * gap; at <= to; at += gap) {
     svg.append(shape("line", { x1: place(at), x2: place(at), y1: 18, y2: height, stroke: "var(--edge)" }));
-    svg.append(words(place(at), 13, at, "var(--soft)", 11, { "text-anchor": "middle" }));
+    axis.append(words(place(at), 13, at, "var(--soft)", 11, { "text-anchor": "middle" }));
   }
   // the tick that is shown: behind the bars as wide as it is, and before them a line
   svg.append(shape("rect", { x: place(tick), y: 16, width: Math.max(scale, 1.5), height: height - 16, fill: "var(--here-edge)", "fill-opacity": 0.35 }));
   const tops = {};
   run.lanes.forEach((lane, number) => {
     const top = tops[lane.name] = 30 + number * laneHeight;
-    const most = narrow ? 11 : 24, title = lane.words.length > most ? `..${lane.words.slice(2 - most)}` : lane.words;
+    const signed = new Set(lane.marks.filter(([, kind]) => !DOTS.has(kind)).map(([at]) => at));
     svg.append(words(2, top + 6, lane.name, "var(--ink)", 12, { "font-weight": "bold" }));
     svg.append(words(narrow ? 26 : 44, top + 6, lane.note.replace("base ", narrow ? "b " : "base ").replace("ceiling ", narrow ? "c " : "ceiling "), "var(--soft)", 10));
-    svg.append(words(2, top + 17, title, "var(--ink)", narrow ? 9.5 : 10.5));
+    svg.append(words(2, top + 17, nameOf(lane, narrow ? 11 : 24), "var(--ink)", narrow ? 9.5 : 10.5));
     for (const [first, end, state, level, raised, detail] of lane.bars) if (meets(first, end)) {
       const x = place(first), wide = Math.max(place(end) - x, 0.7), kind = state === "run" && raised ? "raised" : state;
       const says = `${lane.name} ${SAYS[state]}${level && state !== "block" && state !== "made" ? ` at level ${level}` : ""}${detail ? `: ${detail}` : ""}, ${first} to ${end}`;
       const [y, tall] = { run: [top, 14], raised: [top - 4, 18], ready: [top + 4, 10], block: [top + 11, 2], made: [top + 11, 2] }[kind];
-      svg.append(shape("rect", { x, y, width: wide, height: tall, fill: LOOKS[kind] }, says));
-      if (state === "run" && wide > 7 * level.length + 4) svg.append(words(x + 3, top + 11, level, kind === "raised" ? "var(--paper)" : "var(--on-run)", 10.5, { "font-weight": "bold", "pointer-events": "none" }));
-      if (state === "block" && detail && wide > 6 * detail.length + 8) svg.append(words(x + 4, top + 8, detail, "var(--soft)", 10, { "pointer-events": "none" }));
+      if (kind === "made") svg.append(shape("path", { d: `M${x} ${y + 1}h${wide}`, stroke: LOOKS.made, "stroke-width": 2, "stroke-dasharray": "3 3" }, says));
+      else svg.append(shape("rect", { x, y, width: wide, height: tall, fill: LOOKS[kind] }, says));
+      // the level stands beside a sign at the beginning of its bar
+      const beside = first >= from && signed.has(first) ? 7 : 3;
+      if (state === "run" && wide > 7 * level.length + beside) inBar(x + beside, top + 11, level, kind === "raised" ? "var(--paper)" : "var(--on-run)");
+      if (state === "block" && detail && wide > 6 * detail.length + 8) texts.push(words(x + 4, top + 8, detail, "var(--soft)", 10, { "pointer-events": "none" }));
     }
     for (const [first, end] of lane.late) if (meets(first, end))
       svg.append(shape("rect", { x: place(first), y: top + 15, width: place(end) - place(first), height: 4, fill: "var(--fault)" }, `${lane.name} is late, ${first} to ${end}`));
@@ -300,27 +323,39 @@ function draw() {
     const x = place(first), wide = Math.max(place(end) - x, 0.7), says = `${who} in ${object} (${mode}), ${first} to ${end}`;
     if (who in tops) svg.append(shape("rect", { x, y: tops[who] - 2, width: wide, height: 4, fill: "var(--object)" }, says));
     svg.append(shape("rect", { x, y: tops[object] + 1, width: wide, height: 13, fill: "var(--object)", "fill-opacity": mode === "read" ? 0.5 : 1 }, says));
-    if (wide > 7 * who.length + 4) svg.append(words(x + 3, tops[object] + 11, who, "var(--paper)", 10.5, { "font-weight": "bold", "pointer-events": "none" }));
+    if (wide > 7 * who.length + 4) inBar(x + 3, tops[object] + 11, who, "var(--paper)");
   }
   for (const [at, kind, first, second, says] of run.links) if (at >= from && at <= to)
     svg.append(call(kind, Math.round(place(at) * 10) / 10, tops[first] + 7, tops[second] + 7, `${at}: ${says}`));
   for (const lane of run.lanes) {
     // where signs stand close, a release is a short line, and of equal signs in one pixel one is drawn
-    const marks = lane.marks.filter(([at]) => at >= from && at <= to), dense = marks.length * 16 > width, seen = new Set();
+    const marks = lane.marks.filter(([at]) => at >= from && at <= to), dense = marks.length * 16 > width, seen = new Set(), signs = [];
     for (const [at, kind, says] of marks) {
       const x = Math.round(place(at) * 10) / 10, pixel = `${kind}${Math.round(x)}`, top = tops[lane.name];
       if (seen.has(pixel)) continue;
       seen.add(pixel);
       if (dense && kind === "release") svg.append(shape("rect", { x: x - 0.4, y: top - 4, width: 0.8, height: 17, fill: "var(--ink)" }, `${at}: ${says}`));
-      else svg.append(sign(kind, x, top, `${at}: ${says}`));
+      else signs.push(sign(kind, x, top, `${at}: ${says}`));
     }
+    // the edge of a sign covers no other sign
+    svg.append(...signs.map((it) => it.querySelector(".edge")).filter((edge) => edge), ...signs);
   }
   const x = place(tick);
   svg.append(shape("rect", { x: x - 0.5, y: 16, width: 1, height: height - 16, fill: "var(--here-edge)" }));
-  svg.append(shape("path", { d: `M${x - 5} 15h10l-5 6z`, fill: "var(--here-edge)" }));
+  axis.append(shape("path", { d: `M${x - 5} 15h10l-5 6z`, fill: "var(--here-edge)" }));
+  // words come last, so that nothing covers them
+  svg.append(...texts);
   const scrolled = by("drawing").scrollTop;
-  by("drawing").replaceChildren(svg);
+  by("drawing").replaceChildren(axis, svg);
   by("drawing").scrollTop = scrolled;
+}
+
+// scrolls to the lane of the one that runs
+function laneIntoView() {
+  const box = by("drawing"), running = fact("run", tick);
+  const top = run.lanes.findIndex((lane) => lane.name === running) * laneHeight;
+  const isSeen = top >= box.scrollTop && top + laneHeight + axisHeight <= box.scrollTop + box.clientHeight;
+  if (running && !isSeen) box.scrollTop = top - (box.clientHeight - axisHeight - laneHeight) / 3;
 }
 
 function key(what, text) {
@@ -338,7 +373,7 @@ function makeLegend() {
   if (states.has("raised")) key(bar("var(--raised)", 0, 16), "runs above its base priority");
   if (states.has("ready")) key(bar("url(#hatch)", 4, 10), "ready");
   if (states.has("block")) key(bar("var(--block)", 8, 2), "blocked, and what for");
-  if (states.has("made")) key(bar("var(--made)", 8, 2), "made, not yet activated");
+  if (states.has("made")) key(shape("path", { d: "M0 9h28", stroke: "var(--made)", "stroke-width": 2, "stroke-dasharray": "3 3" }), "made, not yet activated");
   if (run.actions.length) key(bar("var(--object)", 4, 5), "protected action");
   for (const [kind, says] of [["meeting", "a rendezvous begins, ends"], ["entry body", "another task runs the entry body"]])
     if (run.links.some((link) => link[1] === kind)) key(call(kind, 14, 0, 15), says);
@@ -362,6 +397,8 @@ function pressed(event) {
     Home: () => show(0), End: () => show(run.end),
     "+": () => zoom(0.5), "=": () => zoom(0.5), "-": () => zoom(2), "0": all,
   };
+  // in the source, as a click on the line of the chosen line of the trace
+  if (event.target === by("source")) keys.Enter = () => goToLineOfSource(run.lines[chosen]);
   if (!(event.key in keys)) return;
   event.preventDefault();
   keys[event.key]();
@@ -369,6 +406,13 @@ function pressed(event) {
 
 function all() {
   look(0, run.end);
+  draw();
+}
+
+// a long run opens closer, at about two ticks a pixel
+function begin() {
+  byFragment();
+  look(tick - innerWidth, 2 * innerWidth);
   draw();
 }
 
@@ -394,4 +438,4 @@ by("drawing").addEventListener("click", clicked);
 document.addEventListener("keydown", pressed);
 window.addEventListener("resize", draw);
 window.addEventListener("hashchange", byFragment);
-byFragment();
+begin();

@@ -19,6 +19,8 @@ BAND = "#f4f5f7"
 OBJECTS = ["#d9622b", "#12908e", "#a83f86", "#7a7a1f", "#5b5fc7", "#9c5b3b"]
 
 LETTER = 5.7  # the mean width of a letter of a label, in pixels
+BOLD = 7  # that of a letter of a level or a holder
+LONGER_NAME = 14  # by so many letters the column of names may become wider
 
 # the signs of marks, by their kinds: the shape, the colour, and the words of the legend
 SIGNS = {
@@ -45,6 +47,20 @@ def text_at(x, y, text, colour=INK, size=11, anchor="start", weight="normal"):
     return f'<text x="{x:.1f}" y="{y:.1f}" fill="{colour}" font-size="{size}"{more}>{escape(text)}</text>'
 
 
+def column_of_names(names, most):
+    """How many letters of the names of lanes are drawn, and how much wider than for the usual number this makes their column."""
+    longest = min(max(map(len, names), default=0), most + LONGER_NAME)
+    return max(longest, most), max(0, longest - most) * 6
+
+
+def name_at(x, y, name, most, size):
+    """The name of a lane: where it has no room its last part, or the end of that, and the whole one under the mouse."""
+    last = name.rpartition(".")[2]
+    shown = next((it for it in (name, last) if len(it) <= most), ".." + last[2 - most:])
+    text = text_at(x, y, shown, INK, size)
+    return text if shown == name else text.replace("</text>", f"<title>{escape(name)}</title></text>")
+
+
 def over_others(texts):
     """Texts with a white edge, which stays readable over lines."""
     return ['<g stroke="white" stroke-width="3" stroke-linejoin="round" paint-order="stroke">', *texts, "</g>"] if texts else []
@@ -57,6 +73,11 @@ def box(x, y, width, height, fill, title="", more=""):
 
 def line(x1, y1, x2, y2, colour, width=1.0, more=""):
     return f'<line x1="{x1:.1f}" y1="{y1:.1f}" x2="{x2:.1f}" y2="{y2:.1f}" stroke="{colour}" stroke-width="{width}" {more}/>'
+
+
+def stands_in_bar(kind):
+    """Whether the sign of a mark stands in the bar, and not above it."""
+    return SIGNS[kind][0] != "dot"
 
 
 def sign(kind, x, top, bottom, says=""):
@@ -78,8 +99,8 @@ def sign(kind, x, top, bottom, says=""):
         return f'<circle cx="{x:.1f}" cy="{top - 1:.1f}" r="2.3" fill="{colour}" stroke="white" stroke-width="0.6">{tip}</circle>'
     width = 2.4 if glyph == "miss" else 1.7
     ends = 'fill="none" stroke-linecap="round" stroke-linejoin="round"'
-    # a cross or a bolt that stands in a bar has a white edge
-    edge = f'<path d="{path}" stroke="white" stroke-width="{width + 2.4:.1f}" {ends}/>' if glyph in ("cross", "miss", "bolt") else ""
+    # what stands in a bar, in a colour that is not seen there, has a white edge
+    edge = f'<path d="{path}" stroke="white" stroke-width="{width + 2.4:.1f}" {ends}/>' if glyph != "up" else ""
     return f'{edge}<path d="{path}" stroke="{colour}" stroke-width="{width}" {ends}>{tip}</path>'
 
 

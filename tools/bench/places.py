@@ -8,6 +8,7 @@ import collections
 import re
 
 from .tokens import NoTokens, place_of, tokens_of
+from .traces import is_named
 
 SET_BY_CALL = {"group_budget": "replenish", "timer": "set_handler", "timing_event": "set_handler"}
 VALUE_NAMES = {"to", "in_time", "at_time"}
@@ -60,6 +61,8 @@ class Survey:
         self.tokens = tokens_of(source)
         self.at = 0
         self.regions = []
+        self.label = None  # the name of the block that begins here
+        self.is_whole = True  # does each region end, and nothing else? Of an accepted source they do
         self.places = []
         self.declared = []
         self.calls = []  # the name, its arguments and the task body round it
@@ -111,6 +114,7 @@ class Survey:
             self.read_one()
             if self.at == before:
                 self.at += 1
+        self.is_whole = self.is_whole and not self.regions
 
     def read_one(self):
         word = self.word()
@@ -205,15 +209,17 @@ class Survey:
             self.at += 1
 
     def read_declare(self):
-        self.regions.append(Region("block"))
+        self.push_block()
 
     def read_begin(self):
         top = self.regions[-1] if self.regions else None
-        if top and not top.begun and top.kind in ("package", "subprogram", "entry", "task body", "block"):
-            top.begun = True
-        else:
-            self.regions.append(Region("block"))
-            self.regions[-1].begun = True
+        if not top or top.begun or top.kind not in ("package", "subprogram", "entry", "task body", "block"):
+            self.push_block()
+        self.regions[-1].begun = True
+
+    def push_block(self):
+        self.regions.append(Region("block", self.label))
+        self.label = None
 
     def read_if(self):
         self.push_statement("if")
@@ -262,6 +268,8 @@ class Survey:
     def read_end(self):
         if self.regions:
             self.regions.pop()
+        else:
+            self.is_whole = False
         self.until(";")
 
     def read_delay(self):
@@ -277,9 +285,16 @@ class Survey:
         if self.word(ahead) != ":":
             self.read_statement()
         elif self.regions and self.regions[-1].begun:
-            self.at += ahead + 1
+            self.read_label(ahead + 1)
         else:
             self.read_objects(ahead)
+
+    def read_label(self, ahead):
+        """The name of a loop, which names do not have in them, or of a block."""
+        name = self.word()
+        self.at += ahead
+        if self.word() in ("declare", "begin"):
+            self.label = name
 
     def read_objects(self, ahead):
         names = [self.word(n) for n in range(0, ahead, 2)]
@@ -394,6 +409,19 @@ class Survey:
     def tasks(self):
         """The declared tasks and task types that have a place for a priority."""
         return [d for d in self.declared if d.kind in ("task", "task type")]
+
+    def task_names(self):
+        """The names that tasks have in a trace: that of the environment task, of each task, and of each object of a task type."""
+        types = {d.path[-1] for d in self.declared if d.kind == "task type"}
+        main = [d.path for d in self.declared if d.kind == "subprogram" and len(d.path) == 1][-1:]
+        return [".".join(path) for path in main + [d.path for d in self.declared if d.kind == "task" or d.mark in types]]
+
+    def check_task(self, name, option):
+        """NoPlace where no task has this name, or one that ends so. A source whose regions do not end is refused, and nothing is
+        said of its names."""
+        known = self.task_names()
+        if self.is_whole and not any(is_named(task, name.lower()) for task in known):
+            raise NoPlace(f"{option}: no task is called {name}; there {'is' if len(known) == 1 else 'are'} {', '.join(known) or 'none'}")
 
     def unit(self, name):
         """The declaration of a task or protected object, by the name that it has in a trace: its own, or its type's."""

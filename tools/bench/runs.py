@@ -12,7 +12,9 @@ import shutil
 import signal
 import sys
 import tempfile
+import time
 
+from . import interrupts
 from .traces import counted, lines_of, report_text
 
 TOP = os.path.dirname(os.path.dirname(os.path.dirname(os.path.abspath(__file__))))
@@ -188,18 +190,25 @@ def write_file(path, content):
 # ---- many at a time
 
 MOST_IN_CHUNK = 16  # jobs that a worker is handed at a time
+MOST_KEPT = 0.05  # seconds of work that a worker keeps to itself, and that an interrupt may lose
 
 
 class Worker:
-    """A process that is handed lists of numbered jobs and gives their results, one list after another."""
+    """A process that is handed lists of numbered jobs and gives their results, as they come or a few at a time. It has a group
+    of its own, so that what it runs can be ended with it, and an interrupt from a terminal ends neither."""
 
     def __init__(self, others, folder, runner, evaluate):
         (asked, ask), (told, tell) = os.pipe(), os.pipe()
+        self.owed = 0  # how many results are to come
         self.process = os.fork()
         if self.process == 0:
             for pipe in (ask, told, *(pipe for other in others for pipe in (other.to.fileno(), other.answers.fileno()))):
                 os.close(pipe)
             serve(open(asked, "rb"), open(tell, "wb"), folder, runner, evaluate)
+        try:
+            os.setpgid(self.process, self.process)  # (whichever comes first of the two)
+        except OSError:  # (it has a group, or has ended)
+            pass
         os.close(asked)
         os.close(tell)
         self.to, self.answers = open(ask, "wb"), open(told, "rb")
@@ -209,17 +218,21 @@ class Worker:
         try:
             pickle.dump(jobs, self.to)
             self.to.flush()
+            self.owed = len(jobs)
         except BrokenPipeError:
             raise Failed("a worker has ended")
 
     def results(self):
         try:
-            return pickle.load(self.answers)
+            found = pickle.load(self.answers)
         except (EOFError, pickle.UnpicklingError):
             raise Failed("a worker has ended")
+        self.owed -= len(found)
+        return found
 
     def end(self):
-        os.kill(self.process, signal.SIGTERM)
+        """Ends the process and what it runs."""
+        os.killpg(self.process, signal.SIGKILL)
         os.waitpid(self.process, 0)
         for pipe in (self.to, self.answers):
             try:
@@ -232,18 +245,30 @@ def serve(asked, told, folder, runner, evaluate):
     """What a worker does until nobody asks."""
     status = 1
     try:
-        signal.signal(signal.SIGINT, signal.SIG_IGN)
+        os.setpgid(0, 0)
+        interrupts.on_interrupt(signal.SIG_DFL)
+        signal.pthread_sigmask(signal.SIG_UNBLOCK, interrupts.SIGNALS)
         os.mkdir(folder)
         runner.begin(folder)
         while True:
-            pickle.dump([(number, *work(runner, evaluate, job)) for number, job in pickle.load(asked)], told)
-            told.flush()
+            answer(pickle.load(asked), told, runner, evaluate)
     except (EOFError, BrokenPipeError):
         status = 0
     except BaseException:
         sys.excepthook(*sys.exc_info())
     finally:
         os._exit(status)
+
+
+def answer(jobs, told, runner, evaluate):
+    """Tells the results of a list of jobs."""
+    found, told_at = [], time.monotonic()
+    for place, (number, job) in enumerate(jobs, 1):
+        found.append((number, *work(runner, evaluate, job)))
+        if place == len(jobs) or time.monotonic() - told_at > MOST_KEPT:
+            pickle.dump(found, told)
+            told.flush()
+            found, told_at = [], time.monotonic()
 
 
 def work(runner, evaluate, job):
@@ -255,17 +280,41 @@ def work(runner, evaluate, job):
 
 
 class Workers:
-    """Worker processes that evaluate jobs: `evaluate(runner, job)` gives the result of one."""
+    """Worker processes that evaluate jobs: `evaluate(runner, job)` gives the result of one. They are there within a `with`."""
 
-    def __init__(self, runner, evaluate, source, count, expected=1, told=True):
+    def __init__(self, runner, evaluate, source, count, expected=1):
         """So many workers, for about so many jobs; the source is one like those that will run."""
-        runner.prepare(source)
-        if told and isinstance(runner, ByDefinitions):
+        if isinstance(runner, ByDefinitions):
             print("annexd: computed from the definitions; .ci/run proves and builds the program", file=sys.stderr)
+        runner.prepare(source)
+        self.runner, self.evaluate, self.count, self.expected = runner, evaluate, count, expected
+        self.folder, self.workers = None, []
+
+    def __enter__(self):
+        try:
+            with interrupts.held():
+                self.begin()
+        except BaseException:
+            self.end()
+            raise
+        return self
+
+    def __exit__(self, *why):
+        self.end()
+
+    def begin(self):
         memory = "/dev/shm" if os.access("/dev/shm", os.W_OK) else None
-        self.folder, self.expected, self.workers = tempfile.mkdtemp(prefix="annexd-bench-", dir=memory), expected, []
-        for number in range(count):
-            self.workers.append(Worker(self.workers, os.path.join(self.folder, str(number)), runner, evaluate))
+        self.folder = tempfile.mkdtemp(prefix="annexd-bench-", dir=memory)
+        for number in range(self.count):
+            self.workers.append(Worker(self.workers, os.path.join(self.folder, str(number)), self.runner, self.evaluate))
+
+    def end(self):
+        with interrupts.held():
+            for worker in self.workers:
+                worker.end()
+            self.workers = []
+            if self.folder:
+                shutil.rmtree(self.folder, ignore_errors=True)
 
     def chunks(self, jobs):
         """Lists of numbered jobs, which become short towards the end, so that all workers end at about the same time."""
@@ -281,23 +330,15 @@ class Workers:
             hand_next(worker, chunks, busy)
         while busy:
             for pipe in select.select(list(busy), [], [])[0]:
-                worker = busy.pop(pipe)
+                worker = busy[pipe]
                 found = worker.results()
-                hand_next(worker, chunks, busy)
+                if not worker.owed:
+                    del busy[pipe]
+                    hand_next(worker, chunks, busy)
                 for number, result, fault in found:
                     if fault is not None:
                         raise Failed(fault)
                     yield number, result
-
-    def in_order(self, jobs):
-        """The results of a few jobs, in their order."""
-        found = dict(self.results(jobs))
-        return [found[n] for n in sorted(found)]
-
-    def end(self):
-        for worker in self.workers:
-            worker.end()
-        shutil.rmtree(self.folder, ignore_errors=True)
 
 
 def hand_next(worker, chunks, busy):
@@ -368,34 +409,11 @@ class Progress:
             sys.stderr.flush()
 
 
-def interrupt_once(number, frame):
-    """Of several interrupts the first counts, so that what is there can be told."""
-    signal.signal(signal.SIGINT, signal.SIG_IGN)
-    raise KeyboardInterrupt
-
-
-def ended(tool, main):
-    """The status of a tool, also where it is interrupted, or its output takes no more."""
-    signal.signal(signal.SIGINT, interrupt_once)
-    try:
-        status = main()
-        sys.stdout.flush()
-        return status
-    except KeyboardInterrupt:
-        print(f"{tool}: interrupted", file=sys.stderr)
-        return 130
-    except BrokenPipeError:
-        os.dup2(os.open(os.devnull, os.O_WRONLY), sys.stdout.fileno())
-        return 8
-    except OSError as why:
-        print(f"{tool}: {why.filename or 'output'}: {why.strerror}", file=sys.stderr)
-        return 8
-
-
 def picture(trace, path, first, last):
     """Draws these ticks of a trace by tools/timeline."""
     import subprocess  # here, since a run of variants begins sooner without it
 
     words = [sys.executable, os.path.join(TOP, "tools", "timeline"), "-", "--from", str(first), "--to", str(last)]
     with open(path, "wb") as out:
-        subprocess.run(words, input=trace, stdout=out, check=True)
+        # apart from the terminal's group, so that an interrupt is told by this tool alone
+        subprocess.run(words, input=trace, stdout=out, check=True, start_new_session=True)

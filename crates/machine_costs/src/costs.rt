@@ -1,14 +1,15 @@
 //! What an action costs, in ticks (this profile's choice).
-ghost use Rattle.std.specs.Prelude.{◌≡◌};
+ghost use Rattle.std.specs.Prelude.{◌≡◌, Some, option_copied};
 ghost use Rattle.profile_machine.specs.Cost.{of_region, has_registered, cost_of_leaving};
 ghost use Rattle.profile_machine.specs.Cost.{cost_of_step, cost_of_mark, cost_of_form};
-ghost use Rattle.profile_machine.specs.Cost.{cost_of_statement, cost_of_first, cost};
+ghost use Rattle.profile_machine.specs.Cost.{cost_of_statement, cost_of_first, cost_of_top, cost};
+ghost use Rattle.profile_machine.specs.Tasks.{task_at};
 
 use ann_base::RegionNo;
 use machine_frames::top_of;
 use machine_program::{Program, statement_of};
 use profile_image::{Statement, StatementForm, StatementNo};
-use profile_machine::world::{AssignStep, Mark, Registered, World};
+use profile_machine::world::{AssignStep, Frame, Mark, Registered, Task, World};
 use trace_text::Who;
 use world_tables::List;
 
@@ -145,13 +146,28 @@ fn cost_of_first(
     }
 }
 
+// The same of the top frame, if there is one.
+fn cost_of_top(p: &Program, objects: &List<Registered>, top: Option<&Frame>) -> u64
+    ensures { result ≡ cost_of_top p.now objects.now (option_copied top.entry) }
+{
+    match top {
+        Some(frame) => cost_of_first(p, objects, &frame.mark, frame.onward),
+        None => 2,
+    }
+}
+
 /// What the action costs that the one with this name does next. The agent without a rest calls the
 /// handler of the release that it serves.
 pub fn cost(p: &Program, world: &World, name: Who) -> u64
     ensures { result ≡ cost p.now world.now name }
 {
-    match top_of(world, name) {
-        Some(frame) => cost_of_first(p, &world.registered, &frame.mark, frame.onward),
-        None => 2,
-    }
+    cost_of_top(p, &world.registered, top_of(world, name))
+}
+
+/// The same of a task that has been found already.
+pub fn cost_of_found(p: &Program, world: &World, name: Who, task: &Task) -> u64
+    requires { task_at world.now name ≡ Some task.now }
+    ensures { result ≡ cost p.now world.now name }
+{
+    cost_of_top(p, &world.registered, task.frames.front())
 }

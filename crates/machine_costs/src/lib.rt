@@ -4,4 +4,4 @@
 
 mod costs;
 
-pub use costs::{cost, has_registered, of_region};
+pub use costs::{cost, cost_of_found, has_registered, of_region};

@@ -13,7 +13,7 @@ ghost use Rattle.machine_expiries.specs.Moved.{Moved};
 use ann_base::NoMemory;
 use machine_dispatching::{active, settle, to_tail};
 use machine_frames::{Effect, is_runnable, says, task_at};
-use machine_program::{Program, is_robin_level};
+use machine_program::{Program, is_robin_level, policies};
 use machine_releases::{clear_timer, release};
 use machine_values::{budget_of, timer_of};
 use profile_machine::world::{Line, Part, Task, TimerSetting, World};
@@ -136,9 +136,13 @@ fn has_spent_quantum(p: &Program, task: &Task) -> bool
         && !task.frames.any_protected()
 }
 
+// Where no range of levels has a policy of its own, no task has a quantum, and none is looked for.
 fn quantum_is_spent(p: &Program, world: &World, name: Who) -> bool
     ensures { result ≡ has_spent_quantum p.now (task_of world.now name) }
 {
+    if policies(p).dispatching.as_slice().is_empty() {
+        return false;
+    }
     match task_at(world, name) {
         Some(task) => has_spent_quantum(p, task),
         None => false,

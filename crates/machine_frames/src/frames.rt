@@ -1,6 +1,7 @@
 //! The frames of a task: opening constructs, leaving them, and going on (ISO/IEC 8652:2012, 5, 6,
 //! 7.6.1, 11).
-ghost use Rattle.std.specs.Prelude.{◌≡◌, OnOk, option_copied};
+ghost use Rattle.std.specs.Prelude.{◌≡◌, OnOk, option_and_then, option_copied};
+ghost use Rattle.world_tables.specs.Lists.{first_of};
 ghost use Rattle.profile_machine.specs.Frames.{top_of, onward_of, leaving_of, goes};
 ghost use Rattle.profile_machine.specs.Frames.{leaves, raises, push, pop, new_frame};
 ghost use Rattle.profile_machine.specs.Frames.{statement_of_purpose, statement_of_mark};
@@ -15,7 +16,7 @@ use ann_base::{NoMemory, Raised};
 use machine_program::{Program, form_of, next_of};
 use profile_image::{StatementForm, StatementNo};
 use profile_machine::Leaving;
-use profile_machine::world::{Frame, Line, Mark, Part, Purpose, Said, World};
+use profile_machine::world::{Frame, Line, Mark, Part, Purpose, Said, Task, World};
 use trace_text::Who;
 
 /// The top frame of a task, if it has one.
@@ -106,7 +107,14 @@ pub fn says(effect: &mut Effect, part: Part, line: Line) -> Result<(), NoMemory>
     Ok(())
 }
 
-/// What the task does next.
+/// What a task does next.
+pub fn onward_in(task: &Task) -> Option<StatementNo>
+    ensures { result ≡ option_and_then (λ f. f.onward) (first_of task.now.frames) }
+{
+    task.frames.front()?.onward
+}
+
+/// What the task with this name does next.
 pub fn onward_of(world: &World, name: Who) -> Option<StatementNo>
     ensures { result ≡ onward_of world.now name }
 {

@@ -5,9 +5,9 @@ ghost use Rattle.profile_machine.specs.Frames.{open_handled, open_at, open_seque
 ghost use Rattle.machine_frames.specs.Did.{Did};
 
 use crate::effects::Effect;
-use crate::frames::{goes, new_frame, onward_of, push, raises};
+use crate::frames::{goes, new_frame, onward_in, onward_of, push, raises};
 use crate::room::has_room;
-use crate::tasks::may_run;
+use crate::tasks::{is_runnable, task_at};
 use ann_base::{NoMemory, Raised};
 use machine_program::{Program, form_of, next_of};
 use profile_image::{StatementForm, StatementNo};
@@ -76,14 +76,17 @@ pub fn open_sequence(
     open_at(p, effect, part, name, onward)
 }
 
-/// The same behind the effect of an action: who has blocked opens nothing.
-#[tactic(auto, unfolding(profile_machine::specs::Frames::open_if_ready))]
+/// The same behind the effect of an action: who has blocked opens nothing. One look at the task
+/// serves.
+#[tactic(auto, unfolding(profile_machine::specs::Frames::open_if_ready, profile_machine::specs::Frames::open_sequence))]
 pub fn open_if_ready(p: &Program, effect: &mut Effect, name: Who) -> Result<(), NoMemory>
     ensures { OnOk result (Did (open_if_ready p.now name) effect.old effect.new) }
 {
-    if may_run(&effect.world, name) {
-        open_sequence(p, effect, Part::Own, name)
-    } else {
-        Ok(())
+    match task_at(&effect.world, name) {
+        Some(task) if is_runnable(task) => {
+            let onward = onward_in(task);
+            open_at(p, effect, Part::Own, name, onward)
+        }
+        _ => Ok(()),
     }
 }

@@ -11,7 +11,7 @@ ghost use Rattle.machine_ticks.specs.Alone.{ticked, ticks_alone, ticked_alone};
 ghost use Rattle.machine_ticks.specs.Ticks.{Ticks};
 
 use ann_base::{NoMemory, TaskNo};
-use machine_costs::cost;
+use machine_costs::{cost, cost_of_found};
 use machine_dispatching::choose;
 use machine_frames::{set_ticks, task_at, task_mut};
 use machine_program::Program;
@@ -86,7 +86,7 @@ fn ticks_of_action(p: &Program, name: Who, world: &World) -> u64
     match task_at(world, name) {
         Some(task) => match task.ticks_left {
             Some(ticks) => ticks,
-            None => cost(p, world, name),
+            None => cost_of_found(p, world, name, task),
         },
         None => cost(p, world, name),
     }
@@ -138,7 +138,7 @@ fn ticks_alone(p: &Program, name: Who, world: &World) -> Option<u64>
     }
     match task.ticks_left {
         Some(ticks) => Some(ticks),
-        None => Some(cost(p, world, name)),
+        None => Some(cost_of_found(p, world, name, task)),
     }
 }
 

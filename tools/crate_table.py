@@ -1,24 +1,20 @@
 #!/usr/bin/env python3
-"""Writes the lists of docs/CRATES.md from crates.txt and the crates.
+"""Prints each crate in a line, by the groups of crates.txt.
 
-    tools/crate_table.py              writes them
-    tools/crate_table.py --check      says whether they are what it would write; status 1 if not
+    tools/crate_table.py              prints the table
     tools/crate_table.py --follows    prints which files of definitions each crate follows
 
 A group is a comment of crates.txt. A crate's line is the beginning of its root file, `src/lib.rt` or `src/main.rt`, up to the
 first period, semicolon or colon, without clauses of the standard; what stands before a colon is kept with what is behind it if
 it has three words at most. A crate follows a file of definitions if a definition there has the name of one of its functions,
-whose contract cites it. What stands around the lists in docs/CRATES.md is written by hand."""
+whose contract cites it."""
 import collections
 import pathlib
 import re
 import sys
-import textwrap
 
 TOP = pathlib.Path(__file__).resolve().parent.parent
 CRATES = TOP / "crates"
-PAGE = TOP / "docs" / "CRATES.md"
-BEGIN, END = "<!-- begin: made by tools/crate_table.py -->\n", "<!-- end -->\n"
 
 IMPORT = re.compile(r"ghost use Rattle\.(\w+)\.specs\.(\w+)\.\{([^}]*)\}")
 FUNCTION = re.compile(r"^\s*(?:pub(?:\(crate\))? )?fn (\w+)", re.MULTILINE)
@@ -61,8 +57,9 @@ def beginning(text):
 
 
 def line_of(crate):
+    """What the root of a crate says of it, in a line; empty if it says nothing."""
     file = root_file(crate)
-    return f"- `{crate}`: {beginning(first_paragraph(file.read_text())) if file else ''}"
+    return beginning(first_paragraph(file.read_text())) if file else ""
 
 
 def followed(crate):
@@ -78,45 +75,24 @@ def followed(crate):
     return "; ".join(f"`{owner}`: {', '.join(sorted(found[owner]))}" for owner in sorted(found))
 
 
-def follows():
-    lines = [(crate, followed(crate)) for _, crates in groups((TOP / "crates.txt").read_text()) for crate in crates]
+def follows(listed):
+    lines = [(crate, followed(crate)) for _, crates in listed for crate in crates]
     return "\n".join(f"{crate}: {files}" for crate, files in lines if files)
 
 
-def tables():
-    lines = []
-    for title, crates in groups((TOP / "crates.txt").read_text()):
-        lines += ["", f"### {title[0].upper()}{title[1:]}", "", *map(line_of, crates)]
-    edited = sorted(folder.parent.name for folder in CRATES.glob("*/must-fail"))
-    told = "Must-fail edits stand in " + ", ".join(f"`{crate}`" for crate in edited) + "."
-    lines += ["", *textwrap.wrap(told, 140, break_on_hyphens=False), ""]
-    return "\n".join(lines).lstrip("\n")
-
-
-def page_with(text, made):
-    """The page with the tables in it; what stands around them is kept."""
-    before, _, rest = text.partition(BEGIN)
-    _, _, behind = rest.partition(END)
-    return before + BEGIN + "\n" + made + "\n" + END + behind
+def table(listed):
+    """The groups, each with its title and a line for each of its crates; the lines begin in one column."""
+    width = max(len(crate) for _, crates in listed for crate in crates)
+    pieces = [[title[0].upper() + title[1:], *(f"  {crate:{width}}  {line_of(crate)}" for crate in crates)] for title, crates in listed]
+    return "\n\n".join("\n".join(piece) for piece in pieces)
 
 
 def main(words):
-    if words not in ([], ["--check"], ["--follows"]):
+    if words not in ([], ["--follows"]):
         print(__doc__.split("\n\n")[1], file=sys.stderr)
         return 2
-    if words == ["--follows"]:
-        print(follows())
-        return 0
-    text = PAGE.read_text()
-    if BEGIN not in text or END not in text:
-        print(f"docs/CRATES.md lacks the line {BEGIN.strip()} or {END.strip()}", file=sys.stderr)
-        return 2
-    made = page_with(text, tables())
-    if words:
-        if made != text:
-            print("docs/CRATES.md is not what the crates say: run tools/crate_table.py")
-        return int(made != text)
-    PAGE.write_text(made)
+    listed = groups((TOP / "crates.txt").read_text())
+    print(follows(listed) if words else table(listed))
     return 0
 
 

@@ -7,10 +7,11 @@ use Rattle.trace_text.specs.declared.events.Event.{Event}
 use Rattle.trace_text.specs.declared.events.Event.TheVariants as line
 use Rattle.trace_text.specs.declared.events.QueueEnd.TheVariants.{Head, Tail}
 use Rattle.trace_text.specs.declared.events.Who.TheVariants as subject
-use Rattle.trace_text.specs.Laws.{Levels, ceilings_after, level_of, no_levels, see_levels}
+use Rattle.trace_text.specs.Laws.{Levels, actions_after, ceilings_after, level_of, no_levels, see_levels}
 use Rattle.trace_text.specs.Queue.{AtEachLine, TraceLine, head_of, queue_after, runner_after, seen_from, somebody_eq, who_of}
 use Rattle.profile_machine.specs.Run.{run_of}
 use Rattle.blocking_laws.specs.DatedLines.{places_dated, shows_nothing}
+use Rattle.blocking_laws.specs.LastExits.{is_last_exit}
 use Rattle.blocking_laws.specs.LowLines.{enters_low}
 use Rattle.blocking_laws.specs.MovingLaws.{Moving, is_agent_level, is_dated_rightly, is_known, is_moved_rightly}
 use Rattle.blocking_laws.specs.MovingLaws.{is_within, may_be_behind, moving_after, nothing_moving, own_level}
@@ -21,6 +22,7 @@ use Rattle.blocking_laws.proofs.DatedLemmas.{runs_date_rightly}
 use Rattle.blocking_laws.proofs.FirstLemmas.{runs_enter_first}
 use Rattle.blocking_laws.proofs.FreshLemmas.{runs_enter_fresh}
 use Rattle.blocking_laws.proofs.HeadLemmas.{runs_tell_own_lines}
+use Rattle.blocking_laws.proofs.LastRuns.{runs_exit_last}
 use Rattle.blocking_laws.proofs.LowLemmas.{runs_enter_low}
 use Rattle.blocking_laws.proofs.ObjectNumbers.{runs_number_objects}
 use Rattle.blocking_laws.proofs.TickLemmas.{seen_part}
@@ -38,6 +40,7 @@ record Parts (m : Moving) (event : Event) : Type 0 where
   dated : places_dated event ≡ true
   low : enters_low (levels_in m) event ≡ true
   new : is_object_new m.ceilings event ≡ true
+  exit : is_last_exit m.past.actions event ≡ true
   rest : is_rest_right m event ≡ true
 
 moved_by_parts : (m : Moving) (event : Event) → Parts m event → is_moved_rightly m event ≡ true
@@ -65,7 +68,7 @@ moved_by_parts m (line.Held who object mode) h =
     and_from (somebody_eq m.past.runner (Some who) && somebody_eq (who_of (head_of m.past.queue)) (Some who))
     (is_within (own_level who m.past.bases m.agent) (level_of object.0 m.ceilings))
     (and_from (somebody_eq m.past.runner (Some who)) (somebody_eq (who_of (head_of m.past.queue)) (Some who)) h.own h.first) h.rest
-moved_by_parts m (line.Exit who object) h = h.rest
+moved_by_parts m (line.Exit who object) h = h.exit
 moved_by_parts m (line.New (created.Task task) name level) h = h.rest
 moved_by_parts m (line.New (created.Object object) name level) h = h.new
 moved_by_parts m _ h = refl
@@ -94,6 +97,8 @@ rest_moves_rightly p low script bound rest =
         new =
             at_part ceilings_after [] (λ (m : Moving). m.ceilings) is_object_new lines (λ m event. refl) refl (runs_number_objects p script bound) front x back
             e;
+        exit =
+            at_part actions_after [] (λ (m : Moving). m.past.actions) is_last_exit lines (λ m event. refl) refl (runs_exit_last p script bound) front x back e;
         rest = rest.moved front x back e;
       });
       holders = rest.holders;

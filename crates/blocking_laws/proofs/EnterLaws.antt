@@ -1,22 +1,18 @@
--- A law of the lines by which actions begin: where who acts keeps it by what is shown before its effect, the lines of the effect keep
--- it, since up to that line nothing is said of levels.
-use Rattle.ceiling_laws.proofs.Runs.EnterLemmas.{AllQuiet, IsLate, NoEnter, is_enter, quiet-late, quiet-no_enter}
-use Rattle.ann_base.specs.declared.identities.ObjectNo.{ObjectNo}
+-- A law of the lines by which somebody enters an object, or finds one held: where who acts keeps it by what is shown before its effect,
+-- the lines of the effect keep it, since up to that line nothing is said of levels.
+use Rattle.blocking_laws.proofs.EnterLemmas.{IsLate, NoneComes, is_coming, quiet-is_coming, quiet-late}
+use Rattle.ceiling_laws.proofs.Runs.EnterLemmas.{AllQuiet}
 use Rattle.ceiling_laws.proofs.Runs.LevelMoves.{is_apart, said_so}
 use Rattle.profile_machine.specs.Lines.{event_of}
 use Rattle.profile_machine.specs.Steps.{in_order, is_part_before, put_in_order}
 use Rattle.profile_image.specs.declared.image.Image.{Image}
 use Rattle.profile_machine.specs.declared.world.lines.Line.{Line}
-use Rattle.profile_machine.specs.declared.world.lines.Line.TheVariants as line
 use Rattle.profile_machine.specs.declared.world.lines.Part.TheVariants.{Own}
 use Rattle.profile_machine.specs.declared.world.lines.Said.{Said}
 use Rattle.std.proofs.Common.{Bool, List, [], ap, cond, false, inl, inr, subst, sym, true, ◌++◌, ◌∙◌, ◌∷◌, ◌≡◌, ◌⊎◌}
 use Rattle.line_laws.proofs.Ticks.LineByLine.{Follow}
 use Rattle.line_laws.proofs.Ticks.ReleaseLemmas.{events_of}
 use Rattle.trace_text.specs.declared.events.Event.{Event}
-use Rattle.trace_text.specs.declared.events.Event.TheVariants as written
-use Rattle.trace_text.specs.declared.events.Mode.{Mode}
-use Rattle.trace_text.specs.declared.events.Who.{Who}
 
 abbrev AllLate : List Said → Type 0
 AllLate [] = Unit {0}
@@ -38,9 +34,9 @@ late-in_order : (xs : List Said) → AllLate xs → AllLate (in_order xs)
 late-in_order [] h = h
 late-in_order (x ∷ xs) h = late-put x (in_order xs) (h.0, late-in_order xs h.1)
 
-late-no_enter : (xs : List Said) → AllLate xs → NoEnter xs
-late-no_enter [] h = tt
-late-no_enter (x ∷ xs) h = (h.0.0, late-no_enter xs h.1)
+late-none_comes : (xs : List Said) → AllLate xs → NoneComes xs
+late-none_comes [] h = tt
+late-none_comes (x ∷ xs) h = (h.0.0, late-none_comes xs h.1)
 
 -- what stands before the own lines says nothing of levels
 early-quiet : (x : Said) → IsLate x → is_part_before x.part Own ≡ true → is_apart x.line ≡ false
@@ -50,16 +46,14 @@ early-quiet x (other, inr late) sooner = absurd (let never : true ≡ false = sy
 module _ {S : Type 0} (see : S → Event → S) (lawful : S → Event → Bool) where
   -- what it asks of other lines, and what is shown behind lines that say nothing of levels
   pub record OfEnters (p : Image) : Type 0 where
-    pub others : (s : S) (x : Line) → is_enter x ≡ false → lawful s (event_of p x) ≡ true
+    pub others : (s : S) (x : Line) → is_coming x ≡ false → lawful s (event_of p x) ≡ true
     pub still : (s : S) (x : Line) → is_apart x ≡ false → see s (event_of p x) ≡ s
 
-  -- the line of an action that begins rightly
+  -- the line by which somebody comes to an object rightly
   pub record Begins (s : S) (x : Said) : Type 0 where
-    pub name : Who
-    pub object : ObjectNo
-    pub mode : Mode
-    pub said : x ≡ said_so Own (line.Enter name object mode)
-    pub right : lawful s (written.Enter name object mode) ≡ true
+    pub came : Line
+    pub said : x ≡ said_so Own came
+    pub right : (p : Image) → lawful s (event_of p came) ≡ true
 
   -- one such line behind lines that say nothing of levels
   abbrev pub Entered : S → List Said → Type 0
@@ -105,15 +99,15 @@ module _ {S : Type 0} (see : S → Event → S) (lawful : S → Event → Bool) 
   -- ---- the law
 
   module _ {p : Image} (law : OfEnters p) where
-    pub no_enters-lawful : (s : S) (xs : List Said) → NoEnter xs → Follow see lawful s (events_of p xs)
-    no_enters-lawful s [] h = tt
-    no_enters-lawful s (x ∷ xs) h = (law.others s x.line h.0, no_enters-lawful (see s (event_of p x.line)) xs h.1)
+    pub none_come-lawful : (s : S) (xs : List Said) → NoneComes xs → Follow see lawful s (events_of p xs)
+    none_come-lawful s [] h = tt
+    none_come-lawful s (x ∷ xs) h = (law.others s x.line h.0, none_come-lawful (see s (event_of p x.line)) xs h.1)
 
     pub entered-lawful : (s : S) (xs : List Said) → Entered s xs → Follow see lawful s (events_of p xs)
     entered-lawful s [] h = absurd h
     entered-lawful s (x ∷ xs) (inl h) = (
-      law.others s x.line (quiet-no_enter x.line h.0),
+      law.others s x.line (quiet-is_coming x.line h.0),
       subst (λ t. Follow see lawful t (events_of p xs)) (sym (law.still s x.line h.0)) (entered-lawful s xs h.1),
     )
     entered-lawful s (x ∷ xs) (inr h) =
-        (ap (λ (z : Said). lawful s (event_of p z.line)) h.0.said ∙ h.0.right, no_enters-lawful (see s (event_of p x.line)) xs (late-no_enter xs h.1))
+        (ap (λ (z : Said). lawful s (event_of p z.line)) h.0.said ∙ h.0.right p, none_come-lawful (see s (event_of p x.line)) xs (late-none_comes xs h.1))

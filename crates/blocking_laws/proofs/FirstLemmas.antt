@@ -198,13 +198,14 @@ first_free p name queue first = record {
   entered = one_base p queue;
   starts = first_none;
   may = λ w o mode e. tt;
+  may_held = λ w o mode e. tt;
   may_on = λ a b o same m. tt;
   enters =
       λ o mode.
       from-leads (says Own (line.Enter name o mode)) (λ w said h. h.0) (comes_one queue (line.Enter name o mode) (λ q. stands_first name queue first));
   finds_held =
       λ o mode.
-      to-leads (says Own (line.Held name o mode)) (comes_one queue (line.Held name o mode) (λ q. stands_first name queue first)) (λ w said h. inr h);
+      from-leads _ (λ w said h. h.0) (to-leads (says Own (line.Held name o mode)) (comes_one queue (line.Held name o mode) (λ q. stands_first name queue first)) (λ w said h. inr h));
   bases_first = λ t level. from-leads _ first_none (none_bases (part_of name (who.Task t)) t level);
   bases = λ t level. none_bases ThePlacing t level;
   defers = λ t deferred. none_alters _;

@@ -6,6 +6,8 @@ use Rattle.trace_text.specs.declared.events.Created.TheVariants as created
 use Rattle.trace_text.specs.declared.events.Event.{Event}
 use Rattle.trace_text.specs.declared.events.Event.TheVariants as line
 use Rattle.trace_text.specs.declared.events.QueueEnd.TheVariants.{Head, Tail}
+use Rattle.ann_base.specs.declared.identities.ObjectNo.{ObjectNo}
+use Rattle.trace_text.specs.declared.events.Who.{Who}
 use Rattle.trace_text.specs.declared.events.Who.TheVariants as subject
 use Rattle.trace_text.specs.Laws.{Levels, actions_after, ceilings_after, level_of, no_levels, see_levels}
 use Rattle.trace_text.specs.Queue.{AtEachLine, TraceLine, head_of, queue_after, runner_after, seen_from, somebody_eq, who_of}
@@ -13,7 +15,7 @@ use Rattle.profile_machine.specs.Run.{run_of}
 use Rattle.blocking_laws.specs.DatedLines.{places_dated, shows_nothing}
 use Rattle.blocking_laws.specs.LastExits.{is_last_exit}
 use Rattle.blocking_laws.specs.LowLines.{enters_low}
-use Rattle.blocking_laws.specs.MovingLaws.{Moving, is_agent_level, is_dated_rightly, is_known, is_moved_rightly}
+use Rattle.blocking_laws.specs.MovingLaws.{Moving, comes_rightly, is_agent_level, is_dated_rightly, is_known, is_moved_rightly}
 use Rattle.blocking_laws.specs.MovingLaws.{is_within, may_be_behind, moving_after, nothing_moving, own_level}
 use Rattle.blocking_laws.specs.NumberLines.{is_object_new}
 use Rattle.blocking_laws.specs.OwnLines.{is_first_entry, is_own}
@@ -43,6 +45,14 @@ record Parts (m : Moving) (event : Event) : Type 0 where
   exit : is_last_exit m.past.actions event ≡ true
   rest : is_rest_right m event ≡ true
 
+comes_by_parts : (m : Moving) (who : Who) (object : ObjectNo) → somebody_eq m.past.runner (Some who) ≡ true
+    → somebody_eq (who_of (head_of m.past.queue)) (Some who) ≡ true
+    → is_within (own_level who m.past.bases m.agent) (level_of object.0 m.ceilings) ≡ true → comes_rightly who object m ≡ true
+comes_by_parts m who object own first low =
+    and_from (somebody_eq m.past.runner (Some who) && somebody_eq (who_of (head_of m.past.queue)) (Some who))
+    (is_within (own_level who m.past.bases m.agent) (level_of object.0 m.ceilings))
+    (and_from (somebody_eq m.past.runner (Some who)) (somebody_eq (who_of (head_of m.past.queue)) (Some who)) own first) low
+
 moved_by_parts : (m : Moving) (event : Event) → Parts m event → is_moved_rightly m event ≡ true
 moved_by_parts m (line.Ready who level Head deadline) h =
     and_from (is_known who m && is_dated_rightly who deadline) (somebody_eq m.past.runner (Some who))
@@ -55,19 +65,10 @@ moved_by_parts m (line.Ready who level Tail deadline) h =
     (and_from (is_known who m) (is_dated_rightly who deadline) inner.0 h.dated) inner.1) outer.1
 moved_by_parts m (line.Block who why) h = h.rest
 moved_by_parts m (line.Done task) h = h.rest
-moved_by_parts m (line.Enter (subject.Task task) object mode) h =
-    let who = subject.Task task in
-    and_from (somebody_eq m.past.runner (Some who) && somebody_eq (who_of (head_of m.past.queue)) (Some who))
-    (is_within (own_level who m.past.bases m.agent) (level_of object.0 m.ceilings))
-    (and_from (somebody_eq m.past.runner (Some who)) (somebody_eq (who_of (head_of m.past.queue)) (Some who)) h.own h.first) h.low
-moved_by_parts m (line.Enter subject.Agent object mode) h =
-    and_from (somebody_eq m.past.runner (Some subject.Agent) && somebody_eq (who_of (head_of m.past.queue)) (Some subject.Agent))
-    (is_within (own_level subject.Agent m.past.bases m.agent) (level_of object.0 m.ceilings))
-    (and_from (somebody_eq m.past.runner (Some subject.Agent)) (somebody_eq (who_of (head_of m.past.queue)) (Some subject.Agent)) h.own h.first) h.rest
-moved_by_parts m (line.Held who object mode) h =
-    and_from (somebody_eq m.past.runner (Some who) && somebody_eq (who_of (head_of m.past.queue)) (Some who))
-    (is_within (own_level who m.past.bases m.agent) (level_of object.0 m.ceilings))
-    (and_from (somebody_eq m.past.runner (Some who)) (somebody_eq (who_of (head_of m.past.queue)) (Some who)) h.own h.first) h.rest
+moved_by_parts m (line.Enter (subject.Task task) object mode) h = comes_by_parts m (subject.Task task) object h.own h.first h.low
+moved_by_parts m (line.Enter subject.Agent object mode) h = comes_by_parts m subject.Agent object h.own h.first h.rest
+moved_by_parts m (line.Held (subject.Task task) object mode) h = comes_by_parts m (subject.Task task) object h.own h.first h.low
+moved_by_parts m (line.Held subject.Agent object mode) h = comes_by_parts m subject.Agent object h.own h.first h.rest
 moved_by_parts m (line.Exit who object) h = h.exit
 moved_by_parts m (line.New (created.Task task) name level) h = h.rest
 moved_by_parts m (line.New (created.Object object) name level) h = h.new

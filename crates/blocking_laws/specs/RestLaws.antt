@@ -24,8 +24,8 @@ is_rest_right moving (Block who why) = not (has_open who moving.past.actions)
 is_rest_right moving (Done task) = not (has_open (subject.Task task) moving.past.actions)
 is_rest_right moving (Enter subject.Agent object mode) =
     is_within (own_level subject.Agent moving.past.bases moving.agent) (level_of object.0 moving.ceilings)
-is_rest_right moving (Held who object mode) =
-    is_within (own_level who moving.past.bases moving.agent) (level_of object.0 moving.ceilings)
+is_rest_right moving (Held subject.Agent object mode) =
+    is_within (own_level subject.Agent moving.past.bases moving.agent) (level_of object.0 moving.ceilings)
 is_rest_right moving (New (created.Task task) name level) = is_none (level_of task.0 moving.past.bases)
 is_rest_right moving _ = true
 

@@ -42,8 +42,8 @@ pub fn who_enters_is_first()
     ensures { RunsEnterFirst }
 {}
 
-/// In every run the base priority of a task that enters an object is not above the object's
-/// ceiling, whatever the task has inherited (D.3).
+/// In every run the base priority of a task that enters an object, or finds one held, is not above
+/// the object's ceiling, whatever the task has inherited (D.3).
 pub fn tasks_enter_at_their_base()
     ensures { RunsEnterLow }
 {}

@@ -4,9 +4,8 @@ use Rattle.ann_base.specs.declared.identities.TaskNo.{TaskNo}
 use Rattle.ceiling_laws.proofs.Fine.Kept.Frames.{goes-keeps, open_sequence-keeps}
 use Rattle.ceiling_laws.proofs.Fine.Kept.Scopes.{open_scope-alters}
 use Rattle.ceiling_laws.proofs.Runs.ActingMoves.{Admitting, Either}
-use Rattle.ceiling_laws.proofs.Runs.EnterLemmas.{AllQuiet, all_quiet-append}
-use Rattle.blocking_laws.proofs.EnterLemmas.{IsLate, NoneComes, all_quiet-none_comes, is_coming}
-use Rattle.blocking_laws.proofs.EnterLemmas.{none_comes-append, none_comes-in_order, quiet-is_coming, quiet-late}
+use Rattle.blocking_laws.proofs.BegunLines.{Each, each-append, each-in_order}
+use Rattle.blocking_laws.proofs.EnterLemmas.{IsLate, IsNoCome, IsQuiet, all_quiet-none_comes, is_coming, quiet-is_coming, quiet-late}
 use Rattle.ceiling_laws.proofs.Runs.Finer.{fine}
 use Rattle.ceiling_laws.proofs.Runs.FreeMoves.{EveryPart, FreeBase, FreeMoves, LatePart, any_task, any_world}
 use Rattle.ceiling_laws.proofs.Runs.FreeMoves.{free_others, freely, ready_by_line, replace_in-free, to_tail-free}
@@ -67,13 +66,13 @@ use Rattle.blocking_laws.proofs.ToldLines.{ToldRuns, run-follows}
 -- ---- no action begins
 
 None_come : State
-None_come w said = NoneComes said
+None_come w said = Each IsNoCome said
 
 none_quiet : Silences None_come
 unfolding None_come
 none_quiet = record {
   silently = λ a b said same h. h;
-  says = λ part line w said other h. none_comes-append said (said_so part line) h (quiet-is_coming line other);
+  says = λ part line w said other h. each-append IsNoCome said (said_so part line) h (quiet-is_coming line other);
   ends_scope = λ id w said h. h;
 }
 
@@ -83,7 +82,7 @@ none_alters f = record { turns = λ w said h. h }
 
 none_says : (part : Part) (line : Line) → is_coming line ≡ false → Keeps None_come (says part line)
 unfolding None_come Ends
-none_says part line other = record { runs = λ w said h. none_comes-append said (said_so part line) h other }
+none_says part line other = record { runs = λ w said h. each-append IsNoCome said (said_so part line) h other }
 
 none_base : (p : Image) → FreeBase p EveryPart None_come
 none_base p = record {
@@ -179,7 +178,7 @@ module _ {S : Type 0} (see : S → Event → S) (lawful : S → Event → Bool) 
   -- ---- the effect
 
   AtFirst : (World → Type 0) → State
-  AtFirst Knows w said = Knows w × AllQuiet said
+  AtFirst Knows w said = Knows w × Each IsQuiet said
 
   module _ {p : Image} (law : OfEnters see lawful p) where
     first_none : (Knows : World → Type 0) (w : World) (said : List Said) → AtFirst Knows w said → None_come w said
@@ -210,7 +209,7 @@ module _ {S : Type 0} (see : S → Event → S) (lawful : S → Event → Bool) 
     enter_free name s May Knows actor = record {
       fresh = record {
         silently = λ a b said same h. (actor.silently a b same h.0, h.1);
-        says = λ part line w said other h. (h.0, all_quiet-append said (said_so part line) h.1 other);
+        says = λ part line w said other h. (h.0, each-append IsQuiet said (said_so part line) h.1 other);
         ends_scope = λ id w said h. (actor.ends_scope id w h.0, h.1);
       };
       appoints_first = λ t moment. record { turns = λ w said h. (actor.appoints t moment w h.0, h.1) };
@@ -235,7 +234,7 @@ module _ {S : Type 0} (see : S → Event → S) (lawful : S → Event → Bool) 
 
     either-lawful : (s : S) (d : Done) → Ends (Either None_come (OneEnters s)) d → Lawful s (settled p d).1
     unfolding Ends None_come OneEnters
-    either-lawful s (done w xs) (inl h) = none_come-lawful see lawful law s (in_order xs) (none_comes-in_order xs h)
+    either-lawful s (done w xs) (inl h) = none_come-lawful see lawful law s (in_order xs) (each-in_order IsNoCome xs h)
     either-lawful s (done w xs) (inr h) = entered-lawful see lawful law s (in_order xs) (entered-in_order see lawful s xs h)
 
     pub effect-lawful : (w : World) (name : Who) (s : S) (May : Admitting) (Knows : World → Type 0) → OfActor p name s May Knows → Knows w
@@ -268,7 +267,7 @@ module _ {S : Type 0} (see : S → Event → S) (lawful : S → Event → Bool) 
       any_task,
       free_others (none_base p),
       (λ w h. tt),
-      (λ v xs h. record { follow = none_come-lawful see lawful law s (in_order xs) (none_comes-in_order xs h); shows = tt }),
+      (λ v xs h. record { follow = none_come-lawful see lawful law s (in_order xs) (each-in_order IsNoCome xs h); shows = tt }),
     )
 
     pub instant-lawful : (w : World) (s : S)
@@ -284,7 +283,7 @@ module _ {S : Type 0} (see : S → Event → S) (lawful : S → Event → Bool) 
     unfolding AnyWorld None_come
     opening-lawful s script =
         (settles_onward see lawful AnyWorld p s None_come None_come (opens p) (blank_world p script)
-        (λ v xs h. record { follow = none_come-lawful see lawful law s (in_order xs) (none_comes-in_order xs h); shows = tt }) (none_opens p) tt).follow
+        (λ v xs h. record { follow = none_come-lawful see lawful law s (in_order xs) (each-in_order IsNoCome xs h); shows = tt }) (none_opens p) tt).follow
 
   -- ---- runs
 

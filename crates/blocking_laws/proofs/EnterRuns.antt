@@ -1,11 +1,11 @@
--- A law of the lines by which actions begin, in effects, in instants and in runs: one record of what is known of who acts.
+-- A law of the lines by which somebody comes to an object, in effects, in instants and in runs: one record of what is known of who acts.
 use Rattle.ann_base.specs.declared.identities.ObjectNo.{ObjectNo}
 use Rattle.ann_base.specs.declared.identities.TaskNo.{TaskNo}
 use Rattle.ceiling_laws.proofs.Fine.Kept.Frames.{goes-keeps, open_sequence-keeps}
 use Rattle.ceiling_laws.proofs.Fine.Kept.Scopes.{open_scope-alters}
-use Rattle.ceiling_laws.proofs.Runs.ActingMoves.{Admitting, Either, later-leads}
-use Rattle.ceiling_laws.proofs.Runs.EnterLemmas.{AllQuiet, IsLate, NoEnter, all_quiet-append, all_quiet-no_enter}
-use Rattle.ceiling_laws.proofs.Runs.EnterLemmas.{is_enter, no_enter-append, no_enter-in_order, quiet-late, quiet-no_enter}
+use Rattle.ceiling_laws.proofs.Runs.ActingMoves.{Admitting, Either}
+use Rattle.blocking_laws.proofs.BegunLines.{Each, each-append, each-in_order}
+use Rattle.blocking_laws.proofs.EnterLemmas.{IsLate, IsNoCome, IsQuiet, all_quiet-none_comes, is_coming, quiet-is_coming, quiet-late}
 use Rattle.ceiling_laws.proofs.Runs.Finer.{fine}
 use Rattle.ceiling_laws.proofs.Runs.FreeMoves.{EveryPart, FreeBase, FreeMoves, LatePart, any_task, any_world}
 use Rattle.ceiling_laws.proofs.Runs.FreeMoves.{free_others, freely, ready_by_line, replace_in-free, to_tail-free}
@@ -13,7 +13,7 @@ use Rattle.ceiling_laws.proofs.Runs.Kept.Act.{effect-leads}
 use Rattle.ceiling_laws.proofs.Runs.LevelMoves.{Silences, said_so}
 use Rattle.ceiling_laws.proofs.Runs.RunLemmas.{Others, behind_onward, settles_onward}
 use Rattle.ceiling_laws.proofs.Runs.Triples.{Alters, Ends, Keeps, Leads, State, With, changes-keeps, for_some-keeps}
-use Rattle.ceiling_laws.proofs.Runs.Triples.{from-leads, from_at, looks-keeps, nothing-keeps, then-keeps}
+use Rattle.ceiling_laws.proofs.Runs.Triples.{from-leads, from_at, looks-keeps, nothing-keeps, then-keeps, to-leads}
 use Rattle.ceiling_laws.specs.Cores.{Same}
 use Rattle.ceiling_laws.specs.RunLaws.{Tells}
 use Rattle.line_laws.proofs.Ticks.LineByLine.{Follow, Follow-all, Follow-append, seen_behind}
@@ -60,31 +60,31 @@ use Rattle.trace_text.specs.declared.events.Event.TheVariants as written
 use Rattle.trace_text.specs.declared.events.Mode.{Mode}
 use Rattle.trace_text.specs.declared.events.Who.{Who}
 use Rattle.trace_text.specs.declared.events.Who.TheVariants as who
-use Rattle.blocking_laws.proofs.EnterLaws.{Entered, OfEnters, entered-append, entered-begins, entered-in_order, entered-lawful, no_enters-lawful}
+use Rattle.blocking_laws.proofs.EnterLaws.{Entered, OfEnters, entered-append, entered-begins, entered-in_order, entered-lawful, none_come-lawful}
 use Rattle.blocking_laws.proofs.ToldLines.{ToldRuns, run-follows}
 
 -- ---- no action begins
 
-None_enter : State
-None_enter w said = NoEnter said
+None_come : State
+None_come w said = Each IsNoCome said
 
-none_quiet : Silences None_enter
-unfolding None_enter
+none_quiet : Silences None_come
+unfolding None_come
 none_quiet = record {
   silently = λ a b said same h. h;
-  says = λ part line w said other h. no_enter-append said (said_so part line) h (quiet-no_enter line other);
+  says = λ part line w said other h. each-append IsNoCome said (said_so part line) h (quiet-is_coming line other);
   ends_scope = λ id w said h. h;
 }
 
-none_alters : (f : World → World) → Alters None_enter f
-unfolding None_enter
+none_alters : (f : World → World) → Alters None_come f
+unfolding None_come
 none_alters f = record { turns = λ w said h. h }
 
-none_says : (part : Part) (line : Line) → is_enter line ≡ false → Keeps None_enter (says part line)
-unfolding None_enter Ends
-none_says part line other = record { runs = λ w said h. no_enter-append said (said_so part line) h other }
+none_says : (part : Part) (line : Line) → is_coming line ≡ false → Keeps None_come (says part line)
+unfolding None_come Ends
+none_says part line other = record { runs = λ w said h. each-append IsNoCome said (said_so part line) h other }
 
-none_base : (p : Image) → FreeBase p EveryPart None_enter
+none_base : (p : Image) → FreeBase p EveryPart None_come
 none_base p = record {
   quiet = none_quiet;
   edits = λ name f same_who same_base same_deferred. none_alters (edit_task name f);
@@ -96,7 +96,7 @@ none_base p = record {
   forgets = λ name. none_alters _;
 }
 
-none_created : (p : Image) (name : Who) (s : StatementNo) (d : DeclNo) (id : Option ScopeId) (t : Task) → Keeps None_enter (create_task p name s d id t)
+none_created : (p : Image) (name : Who) (s : StatementNo) (d : DeclNo) (id : Option ScopeId) (t : Task) → Keeps None_come (create_task p name s d id t)
 unfolding create_task says_created
 none_created p name s d id t =
     then-keeps _ _ (goes-keeps (fine none_quiet) name (next_of p s)) (then-keeps _ _ (changes-keeps _ (none_alters (add_task t)))
@@ -107,14 +107,14 @@ none_created p name s d id t =
     changes-keeps _ (none_alters (set_thing p (record { within = within; declared = d }) (value_of.Task (Some (record { 0 = w.drawn.tasks - 1 }))))))))
     (looks-keeps _ (λ w. none_says Own (line.New (created.Task (record { 0 = w.drawn.tasks - 1 })) (Some d) t.base) refl))))
 
-none_made : (p : Image) (l : Located) (u : ProtectedUnitNo) → Keeps None_enter (changes (with_object p l u) ▷ says_object p l u)
+none_made : (p : Image) (l : Located) (u : ProtectedUnitNo) → Keeps None_come (changes (with_object p l u) ▷ says_object p l u)
 unfolding says_object
 none_made p l u =
     then-keeps _ _ (changes-keeps _ (none_alters (with_object p l u)))
     (looks-keeps _ (λ w. none_says Own (line.New (created.Object (record { 0 = w.drawn.objects })) (Some l.declared) (protected_unit_of p u).ceiling) refl))
 
 none_takes : (p : Image) (level : ℕ)
-    → Keeps None_enter (changes (edit_task who.Agent (λ u. record u { deferred_base = None })) ▷ set_base p ThePlacing ThePlacing who.Agent level)
+    → Keeps None_come (changes (edit_task who.Agent (λ u. record u { deferred_base = None })) ▷ set_base p ThePlacing ThePlacing who.Agent level)
 unfolding set_base says_base
 none_takes p level =
     then-keeps _ _ (changes-keeps _ (none_alters (edit_task who.Agent (λ u. record u { deferred_base = None }))))
@@ -122,11 +122,11 @@ none_takes p level =
     (then-keeps _ _ nothing-keeps (looks-keeps _ (λ w. replace_in-free (none_base p) ThePlacing who.Agent (task_of w who.Agent).state tt))))
 
 none_bases : (part : Part) (t : TaskNo) (level : ℕ)
-    → Keeps None_enter (changes (edit_task (who.Task t) (λ u. record u { base = level })) ▷ says part (line.Base t level))
+    → Keeps None_come (changes (edit_task (who.Task t) (λ u. record u { base = level })) ▷ says part (line.Base t level))
 none_bases part t level =
     then-keeps _ _ (changes-keeps _ (none_alters (edit_task (who.Task t) (λ u. record u { base = level })))) (none_says part (line.Base t level) refl)
 
-none_opens : (p : Image) → Keeps None_enter (opens p)
+none_opens : (p : Image) → Keeps None_come (opens p)
 unfolding opens
 none_opens p =
     then-keeps _ _ (changes-keeps _ (open_scope-alters (fine none_quiet) p environment p.environment (plainly None) opened_for.Task))
@@ -170,18 +170,20 @@ module _ {S : Type 0} (see : S → Event → S) (lawful : S → Event → Bool) 
     pub ends_scope : (id : ScopeId) (w : World) → Knows w → Knows (end_scope id w)
     pub appoints : (t : TaskNo) (moment : ℤ) (w : World) → Knows w → Knows (appoint (due_for.Delay t) moment w)
     pub may : (w : World) (o : ObjectNo) (mode : Mode) → entering p w name o mode ≡ entering_is.Inside → May w o
+    pub may_held : (w : World) (o : ObjectNo) (mode : Mode) → entering p w name o mode ≡ entering_is.Held → May w o
     pub may_on : (a b : World) (o : ObjectNo) → Same a b → May a o → May b o
     pub right : (w : World) (o : ObjectNo) (mode : Mode) → Knows w → May w o → lawful s (written.Enter name o mode) ≡ true
+    pub right_held : (w : World) (o : ObjectNo) (mode : Mode) → Knows w → May w o → lawful s (written.Held name o mode) ≡ true
 
   -- ---- the effect
 
   AtFirst : (World → Type 0) → State
-  AtFirst Knows w said = Knows w × AllQuiet said
+  AtFirst Knows w said = Knows w × Each IsQuiet said
 
   module _ {p : Image} (law : OfEnters see lawful p) where
-    first_none : (Knows : World → Type 0) (w : World) (said : List Said) → AtFirst Knows w said → None_enter w said
-    unfolding AtFirst None_enter
-    first_none Knows w said h = all_quiet-no_enter said h.1
+    first_none : (Knows : World → Type 0) (w : World) (said : List Said) → AtFirst Knows w said → None_come w said
+    unfolding AtFirst None_come
+    first_none Knows w said h = all_quiet-none_comes said h.1
 
     enters_one : (name : Who) (s : S) (May : Admitting) (Knows : World → Type 0) (o : ObjectNo) (mode : Mode) → OfActor p name s May Knows
         → Leads (With (AtFirst Knows) (λ w. May w o)) (OneEnters s) (says Own (line.Enter name o mode))
@@ -189,16 +191,25 @@ module _ {S : Type 0} (see : S → Event → S) (lawful : S → Event → Bool) 
     enters_one name s May Knows o mode actor = record {
       runs =
           λ w said h. entered-begins see lawful s said (said_so Own (line.Enter name o mode)) h.0.1
-          (record { name = name; object = o; mode = mode; said = refl; right = actor.right w o mode h.0.0 h.1 });
+          (record { came = line.Enter name o mode; said = refl; right = λ q. actor.right w o mode h.0.0 h.1 });
+    }
+
+    one_held : (name : Who) (s : S) (May : Admitting) (Knows : World → Type 0) (o : ObjectNo) (mode : Mode) → OfActor p name s May Knows
+        → Leads (With (AtFirst Knows) (λ w. May w o)) (OneEnters s) (says Own (line.Held name o mode))
+    unfolding AtFirst OneEnters Ends
+    one_held name s May Knows o mode actor = record {
+      runs =
+          λ w said h. entered-begins see lawful s said (said_so Own (line.Held name o mode)) h.0.1
+          (record { came = line.Held name o mode; said = refl; right = λ q. actor.right_held w o mode h.0.0 h.1 });
     }
 
     enter_free : (name : Who) (s : S) (May : Admitting) (Knows : World → Type 0) → OfActor p name s May Knows
-        → FreeMoves p name May (AtFirst Knows) None_enter (OneEnters s)
+        → FreeMoves p name May (AtFirst Knows) None_come (OneEnters s)
     unfolding AtFirst
     enter_free name s May Knows actor = record {
       fresh = record {
         silently = λ a b said same h. (actor.silently a b same h.0, h.1);
-        says = λ part line w said other h. (h.0, all_quiet-append said (said_so part line) h.1 other);
+        says = λ part line w said other h. (h.0, each-append IsQuiet said (said_so part line) h.1 other);
         ends_scope = λ id w said h. (actor.ends_scope id w h.0, h.1);
       };
       appoints_first = λ t moment. record { turns = λ w said h. (actor.appoints t moment w h.0, h.1) };
@@ -206,9 +217,10 @@ module _ {S : Type 0} (see : S → Event → S) (lawful : S → Event → Bool) 
       entered = one_base p s;
       starts = first_none Knows;
       may = actor.may;
+      may_held = actor.may_held;
       may_on = actor.may_on;
       enters = λ o mode. enters_one name s May Knows o mode actor;
-      finds_held = λ o mode. later-leads (says Own (line.Held name o mode)) (first_none Knows) (none_says Own (line.Held name o mode) refl);
+      finds_held = λ o mode. to-leads (says Own (line.Held name o mode)) (one_held name s May Knows o mode actor) (λ w said h. inr h);
       bases_first = λ t level. from-leads _ (first_none Knows) (none_bases (part_of name (who.Task t)) t level);
       bases = λ t level. none_bases ThePlacing t level;
       defers = λ t deferred. none_alters _;
@@ -220,9 +232,9 @@ module _ {S : Type 0} (see : S → Event → S) (lawful : S → Event → Bool) 
     abbrev Lawful : S → List Event → Type 0
     Lawful = Follow see lawful
 
-    either-lawful : (s : S) (d : Done) → Ends (Either None_enter (OneEnters s)) d → Lawful s (settled p d).1
-    unfolding Ends None_enter OneEnters
-    either-lawful s (done w xs) (inl h) = no_enters-lawful see lawful law s (in_order xs) (no_enter-in_order xs h)
+    either-lawful : (s : S) (d : Done) → Ends (Either None_come (OneEnters s)) d → Lawful s (settled p d).1
+    unfolding Ends None_come OneEnters
+    either-lawful s (done w xs) (inl h) = none_come-lawful see lawful law s (in_order xs) (each-in_order IsNoCome xs h)
     either-lawful s (done w xs) (inr h) = entered-lawful see lawful law s (in_order xs) (entered-in_order see lawful s xs h)
 
     pub effect-lawful : (w : World) (name : Who) (s : S) (May : Admitting) (Knows : World → Type 0) → OfActor p name s May Knows → Knows w
@@ -248,14 +260,14 @@ module _ {S : Type 0} (see : S → Event → S) (lawful : S → Event → Bool) 
     AnyWorld s w = Unit {0}
 
     beside : Others see lawful AnyWorld p
-    unfolding AnyWorld None_enter
+    unfolding AnyWorld None_come
     beside s = (
-      None_enter,
+      None_come,
       any_world,
       any_task,
       free_others (none_base p),
       (λ w h. tt),
-      (λ v xs h. record { follow = no_enters-lawful see lawful law s (in_order xs) (no_enter-in_order xs h); shows = tt }),
+      (λ v xs h. record { follow = none_come-lawful see lawful law s (in_order xs) (each-in_order IsNoCome xs h); shows = tt }),
     )
 
     pub instant-lawful : (w : World) (s : S)
@@ -268,10 +280,10 @@ module _ {S : Type 0} (see : S → Event → S) (lawful : S → Event → Bool) 
         (behind_onward see lawful AnyWorld beside (seen_behind see lawful s done_first.1) done_first.0 tt).follow
 
     pub opening-lawful : (s : S) (script : List (ℤ × Item)) → Lawful s (opening p script).1
-    unfolding AnyWorld None_enter
+    unfolding AnyWorld None_come
     opening-lawful s script =
-        (settles_onward see lawful AnyWorld p s None_enter None_enter (opens p) (blank_world p script)
-        (λ v xs h. record { follow = no_enters-lawful see lawful law s (in_order xs) (no_enter-in_order xs h); shows = tt }) (none_opens p) tt).follow
+        (settles_onward see lawful AnyWorld p s None_come None_come (opens p) (blank_world p script)
+        (λ v xs h. record { follow = none_come-lawful see lawful law s (in_order xs) (each-in_order IsNoCome xs h); shows = tt }) (none_opens p) tt).follow
 
   -- ---- runs
 

@@ -1,5 +1,5 @@
 -- In every run who enters an object has in that tick neither been placed, nor taken out, nor entered or left one.
-use Rattle.ceiling_laws.proofs.Runs.EnterLemmas.{is_enter}
+use Rattle.blocking_laws.proofs.EnterLemmas.{is_coming}
 use Rattle.ceiling_laws.proofs.Runs.FreeMoves.{anywhere}
 use Rattle.ceiling_laws.proofs.Runs.LevelMoves.{is_apart}
 use Rattle.line_laws.proofs.Ticks.LineByLine.{Follow, Follow-all, Follow-append, seen_behind}
@@ -74,8 +74,9 @@ begins m n touched (x ∷ xs) rest sooner h k =
 
 -- ---- an instant and a tock
 
-fresh_other : (p : Image) (touched : List Who) (x : Line) → is_enter x ≡ false → is_fresh_entry touched (event_of p x) ≡ true
+fresh_other : (p : Image) (touched : List Who) (x : Line) → is_coming x ≡ false → is_fresh_entry touched (event_of p x) ≡ true
 fresh_other p touched (line.Enter name object mode) e = cc
+fresh_other p touched (line.Held name object mode) e = cc
 fresh_other p touched _ e = refl
 
 quiet-still : (p : Image) (touched : List Who) (x : Line) → is_apart x ≡ false → touched_after touched (event_of p x) ≡ touched
@@ -102,8 +103,10 @@ fresh_actor p name = record {
   ends_scope = λ id w h. tt;
   appoints = λ t moment w h. tt;
   may = λ w o mode e. tt;
+  may_held = λ w o mode e. tt;
   may_on = λ a b o same m. tt;
   right = λ w o mode known may. refl;
+  right_held = λ w o mode known may. refl;
 }
 
 effect-fresh : (p : Image) (w : World) (name : Who) → Fresh [] (settles p (effect p name) w).1

@@ -4,7 +4,6 @@ use Rattle.std.specs.Prelude.{find}
 use Rattle.ann_base.specs.declared.identities.ObjectNo.{ObjectNo}
 use Rattle.trace_text.specs.declared.events.Action as shown
 use Rattle.trace_text.specs.declared.events.Who.{Who}
-use Rattle.trace_text.specs.declared.events.Who.TheVariants as who
 use Rattle.trace_text.specs.Queue.{who_eq}
 use Rattle.trace_text.specs.Laws.{closed}
 use Rattle.world_tables.specs.Lists.{rest_of}

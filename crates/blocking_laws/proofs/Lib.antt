@@ -1,7 +1,9 @@
+pub mod BegunLines
 pub mod BlockedLemmas
 pub mod BoundLemmas
 pub mod CalmLemmas
 pub mod ChoiceLemmas
+pub mod CountedLines
 pub mod DatedLemmas
 pub mod EnterLaws
 pub mod EnterLemmas
@@ -10,6 +12,7 @@ pub mod FirstLemmas
 pub mod FreshLemmas
 pub mod HeadLemmas
 pub mod HoldLemmas
+pub mod KnownMoves
 pub mod LastActions
 pub mod LastMoves
 pub mod LastRuns
@@ -23,6 +26,7 @@ pub mod QueueLemmas
 pub mod RestLemmas
 pub mod SettledLemmas
 pub mod StepLemmas
+pub mod TaskNumbers
 pub mod TickLemmas
 pub mod ToldLines
 pub mod WindowLemmas

@@ -1,7 +1,7 @@
--- In every run a task enters objects whose ceilings are not below its base priority.
+-- In every run a task enters objects, and finds them held, whose ceilings are not below its base priority.
 use Rattle.ann_base.specs.declared.identities.ObjectNo.{ObjectNo}
 use Rattle.ann_base.specs.declared.identities.TaskNo.{TaskNo}
-use Rattle.ceiling_laws.proofs.Ceilings.CeilingLemmas.{not_above, not_less, second_false}
+use Rattle.ceiling_laws.proofs.Ceilings.CeilingLemmas.{is_not_above, not_above, not_less, second_false}
 use Rattle.ceiling_laws.proofs.Places.PartOrder.{by_test}
 use Rattle.ceiling_laws.proofs.Runs.ActingMoves.{Admitting}
 use Rattle.ceiling_laws.proofs.Runs.BaseLemmas.{bases_are_told}
@@ -30,7 +30,6 @@ use Rattle.profile_machine.specs.declared.world.World.{World}
 use Rattle.profile_machine.specs.declared.world.appointments.Due.TheVariants as due_for
 use Rattle.profile_machine.specs.declared.world.lines.Line.{Line}
 use Rattle.profile_machine.specs.declared.world.lines.Line.TheVariants as line
-use Rattle.profile_machine.specs.declared.world.objects.Entering.TheVariants as entering_is
 use Rattle.profile_machine.specs.declared.world.objects.Object.{Object}
 use Rattle.profile_machine.specs.declared.world.tasks.Task.{Task}
 use Rattle.std.proofs.Common.{Bool, List, None, Option, Some, [], ap, arith, cond, false, le_trans}
@@ -46,11 +45,11 @@ use Rattle.trace_text.specs.declared.events.Mode.{Mode}
 use Rattle.trace_text.specs.declared.events.Who.{Who}
 use Rattle.trace_text.specs.declared.events.Who.TheVariants as who
 use Rattle.profile_machine.specs.Run.{run_of}
-use Rattle.blocking_laws.specs.LowLines.{RunsEnterLow, enters_low}
+use Rattle.blocking_laws.specs.LowLines.{RunsEnterLow, comes_low, enters_low}
 use Rattle.blocking_laws.specs.MovingLaws.{is_within}
 use Rattle.blocking_laws.proofs.EnterLaws.{OfEnters}
 use Rattle.blocking_laws.proofs.EnterRuns.{OfActor, OfRun, effect-lawful, run_enters}
-use Rattle.ceiling_laws.proofs.Runs.EnterLemmas.{is_enter}
+use Rattle.blocking_laws.proofs.EnterLemmas.{is_coming}
 
 -- ---- without a range that is dispatched by deadlines the base priority is not above the active one
 
@@ -91,11 +90,11 @@ base-low p w name c e =
     (λ edf. not_less (task_of w name).base c (second_false (has_edf p) (ltb c (task_of w name).base) parts.1 edf))
     (λ none. le_trans (base-active p (task_of w name) none) (not_less (active_of p w name) c parts.0))
 
-inside-may : (p : Image) (name : Who) (w : World) (o : ObjectNo) (mode : Mode) (found : Option Object) → object_of w o ≡ found
-    → entering_option p w name found mode ≡ entering_is.Inside → MayEnter p name w o
+comes-may : (p : Image) (name : Who) (w : World) (o : ObjectNo) (mode : Mode) (found : Option Object) → object_of w o ≡ found
+    → is_not_above (entering_option p w name found mode) ≡ true → MayEnter p name w o
 unfolding MayEnter
-inside-may p name w o mode None is e = absurd cc
-inside-may p name w o mode (Some x) is e = (
+comes-may p name w o mode None is e = absurd cc
+comes-may p name w o mode (Some x) is e = (
   x.ceiling,
   ceiling-found o w.objects x is,
   base-low p w name x.ceiling
@@ -125,13 +124,13 @@ ShowsBase sight v name = (t : TaskNo) → name ≡ who.Task t → level_of t.0 s
 within : (base ceiling : ℕ) (shown other : Option ℕ) → shown ≡ Some base → other ≡ Some ceiling → base ≤ ceiling → is_within shown other ≡ true
 within base ceiling shown other e f h = ap (λ s. is_within s other) e ∙ ap (is_within (Some base)) f ∙ le-leb base ceiling h
 
-enter-right : (p : Image) (v w : World) (name : Who) (sight : Levels) (o : ObjectNo) (mode : Mode) → ShowsBase sight v name → Knows v name sight w
-    → MayEnter p name w o → enters_low sight (written.Enter name o mode) ≡ true
+comes-right : (p : Image) (v w : World) (name : Who) (sight : Levels) (o : ObjectNo) → ShowsBase sight v name → Knows v name sight w
+    → MayEnter p name w o → comes_low sight name o ≡ true
 unfolding MayEnter Knows ShowsBase
-enter-right p v w (who.Task t) sight o mode shown known may =
+comes-right p v w (who.Task t) sight o shown known may =
     within (task_of w (who.Task t)).base may.0 (level_of t.0 sight.bases) (level_of o.0 sight.ceilings)
     (shown t refl ∙ ap (λ (c : Core). Some c.base) (sym known.0)) (shown-at sight.ceilings o w.objects may.0 known.1 may.1) may.2
-enter-right p v w who.Agent sight o mode shown known may = refl
+comes-right p v w who.Agent sight o shown known may = refl
 
 low_actor : (p : Image) (v : World) (name : Who) (sight : Levels) → ShowsBase sight v name
     → OfActor see_levels enters_low p name sight (MayEnter p name) (Knows v name sight)
@@ -140,16 +139,19 @@ low_actor p v name sight shown = record {
   silently = λ a b same h. (core-same a b name same ∙ h.0, shown-same sight.ceilings a.objects b.objects same.objects h.1);
   ends_scope = λ id w h. (h.0, shown-fewer sight.ceilings (λ x. not (goes_with id x)) w.objects h.1);
   appoints = λ t moment w h. (seen_plainly name w (appoint (due_for.Delay t) moment w) refl refl ∙ h.0, h.1);
-  may = λ w o mode e. inside-may p name w o mode (object_of w o) refl e;
+  may = λ w o mode e. comes-may p name w o mode (object_of w o) refl (ap is_not_above e);
+  may_held = λ w o mode e. comes-may p name w o mode (object_of w o) refl (ap is_not_above e);
   may_on = may-on p name;
-  right = λ w o mode known may. enter-right p v w name sight o mode shown known may;
+  right = λ w o mode known may. comes-right p v w name sight o shown known may;
+  right_held = λ w o mode known may. comes-right p v w name sight o shown known may;
 }
 
 -- ---- lines
 
-no_enter-right : (p : Image) (sight : Levels) (x : Line) → is_enter x ≡ false → enters_low sight (event_of p x) ≡ true
-no_enter-right p sight (line.Enter name object mode) e = cc
-no_enter-right p sight _ e = refl
+not_coming-right : (p : Image) (sight : Levels) (x : Line) → is_coming x ≡ false → enters_low sight (event_of p x) ≡ true
+not_coming-right p sight (line.Enter name object mode) e = cc
+not_coming-right p sight (line.Held name object mode) e = cc
+not_coming-right p sight _ e = refl
 
 quiet-sight : (p : Image) (sight : Levels) (x : Line) → is_apart x ≡ false → see_levels sight (event_of p x) ≡ sight
 quiet-sight p sight (line.New what declared level) e = cc
@@ -162,10 +164,11 @@ quiet-sight p sight (line.Held who object mode) e = cc
 quiet-sight p sight _ e = refl
 
 low_enters : (p : Image) → OfEnters see_levels enters_low p
-low_enters p = record { others = no_enter-right p; still = quiet-sight p }
+low_enters p = record { others = not_coming-right p; still = quiet-sight p }
 
 tock-right : (sight : Levels) (event : Event) → is_of_tock event ≡ true → enters_low sight event ≡ true
 tock-right sight (written.Enter name object mode) e = cc
+tock-right sight (written.Held name object mode) e = cc
 tock-right sight _ e = refl
 
 -- ---- runs

@@ -12,4 +12,5 @@ pub mod OwnLines
 pub mod RestLaws
 pub mod RunLaws
 pub mod Stretches
+pub mod TaskLines
 pub mod Windows

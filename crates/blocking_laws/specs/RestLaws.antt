@@ -1,9 +1,8 @@
 -- A run moves everybody rightly if it keeps what is not yet proved of every run: the law without what is.
-use Rattle.std.specs.Prelude.{ℕ, ℤ, Bool, true, not, ◌&&◌, IsTrue, List, is_none}
-use Rattle.trace_text.specs.declared.events.Created.TheVariants as created
+use Rattle.std.specs.Prelude.{ℕ, ℤ, Bool, true, not, ◌&&◌, IsTrue, List}
 use Rattle.trace_text.specs.declared.events.Event.{Event}
-use Rattle.trace_text.specs.declared.events.Event.TheVariants.{New, Ready, Block, Done, Enter, Exit, Held}
-use Rattle.trace_text.specs.declared.events.QueueEnd.TheVariants.{Head, Tail}
+use Rattle.trace_text.specs.declared.events.Event.TheVariants.{Ready, Block, Done, Enter, Held}
+use Rattle.trace_text.specs.declared.events.QueueEnd.TheVariants.{Tail}
 use Rattle.trace_text.specs.declared.events.Who.TheVariants as subject
 use Rattle.trace_text.specs.Laws.{level_of}
 use Rattle.trace_text.specs.Queue.{TraceLine, AtEachLine}
@@ -12,22 +11,18 @@ use Rattle.profile_image.specs.declared.script_items.Item.{Item}
 use Rattle.profile_machine.specs.Run.{run_of}
 use Rattle.ceiling_laws.specs.CeilingLaws.{edf_is_below_interrupts}
 use Rattle.blocking_laws.specs.MovingLaws.{HoldersStandLowOk, HoldersStandOk, Moving}
-use Rattle.blocking_laws.specs.MovingLaws.{MovesRightly, exits_last, is_agent_level}
-use Rattle.blocking_laws.specs.MovingLaws.{is_known, is_within, may_be_behind, moving_after, nothing_moving, own_level}
+use Rattle.blocking_laws.specs.MovingLaws.{MovesRightly, is_agent_level}
+use Rattle.blocking_laws.specs.MovingLaws.{is_within, may_be_behind, moving_after, nothing_moving, own_level}
 use Rattle.blocking_laws.specs.Stretches.{has_open}
 
 abbrev pub is_rest_right : Moving → Event → Bool
-is_rest_right moving (Ready who level Head deadline) = is_known who moving
-is_rest_right moving (Ready who level Tail deadline) =
-    is_known who moving && is_agent_level who level moving && may_be_behind who moving
+is_rest_right moving (Ready who level Tail deadline) = is_agent_level who level moving && may_be_behind who moving
 is_rest_right moving (Block who why) = not (has_open who moving.past.actions)
 is_rest_right moving (Done task) = not (has_open (subject.Task task) moving.past.actions)
 is_rest_right moving (Enter subject.Agent object mode) =
     is_within (own_level subject.Agent moving.past.bases moving.agent) (level_of object.0 moving.ceilings)
-is_rest_right moving (Held who object mode) =
-    is_within (own_level who moving.past.bases moving.agent) (level_of object.0 moving.ceilings)
-is_rest_right moving (Exit who object) = exits_last who object moving
-is_rest_right moving (New (created.Task task) name level) = is_none (level_of task.0 moving.past.bases)
+is_rest_right moving (Held subject.Agent object mode) =
+    is_within (own_level subject.Agent moving.past.bases moving.agent) (level_of object.0 moving.ceilings)
 is_rest_right moving _ = true
 
 pub record KeepsRest (lines : List TraceLine) : Type 0 where

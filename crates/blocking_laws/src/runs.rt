@@ -9,6 +9,7 @@ ghost use Rattle.blocking_laws.specs.OpenActions.{OpenActionsAreTold};
 ghost use Rattle.blocking_laws.specs.OwnLines.{RunsEnterFirst, RunsTellOwnLines};
 ghost use Rattle.blocking_laws.specs.RestLaws.{RestMovesRightly};
 ghost use Rattle.blocking_laws.specs.RunLaws.{RightMovesBoundBlocking};
+ghost use Rattle.blocking_laws.specs.TaskLines.{RunsNumberTasks, RunsPlaceKnown};
 
 use crate::protocol::protocol_bounds_blocking;
 use ceiling_laws::runs_keep_the_law_of_ceilings;
@@ -42,8 +43,8 @@ pub fn who_enters_is_first()
     ensures { RunsEnterFirst }
 {}
 
-/// In every run the base priority of a task that enters an object is not above the object's
-/// ceiling, whatever the task has inherited (D.3).
+/// In every run the base priority of a task that enters an object, or finds one held, is not above
+/// the object's ceiling, whatever the task has inherited (D.3).
 pub fn tasks_enter_at_their_base()
     ensures { RunsEnterLow }
 {}
@@ -57,6 +58,17 @@ pub fn only_tasks_have_deadlines()
 /// In every run each protected object that is made has a number that no object had.
 pub fn numbers_of_objects_are_new()
     ensures { RunsNumberObjects }
+{}
+
+/// In every run each task that is made has a number that no task had.
+pub fn numbers_of_tasks_are_new()
+    ensures { RunsNumberTasks }
+{}
+
+/// In every run only tasks are placed that have been made: lines have told their base priority
+/// (D.1, D.2.1).
+pub fn who_is_placed_is_known()
+    ensures { RunsPlaceKnown }
 {}
 
 /// In every run whoever enters an object has in that tick neither been placed nor taken out before,

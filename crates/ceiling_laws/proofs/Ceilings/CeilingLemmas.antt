@@ -46,8 +46,15 @@ not_less a c e = grind arith
 
 -- ---- who is let in
 
+-- who is let in, or finds the object held, is not above its ceiling
+abbrev pub is_not_above : Entering → Bool
+is_not_above entering_is.SameObject = false
+is_not_above entering_is.AboveCeiling = false
+is_not_above entering_is.Held = true
+is_not_above entering_is.Inside = true
+
 pub not_above : (a b c : Bool)
-    → cond a entering_is.SameObject (cond b entering_is.AboveCeiling (cond c entering_is.Held entering_is.Inside)) ≡ entering_is.Inside → b ≡ false
+    → is_not_above (cond a entering_is.SameObject (cond b entering_is.AboveCeiling (cond c entering_is.Held entering_is.Inside))) ≡ true → b ≡ false
 not_above true b c e = absurd cc
 not_above false true c e = absurd cc
 not_above false false c e = refl
@@ -57,7 +64,7 @@ inside-below : (p : Image) (w : World) (name : Who) (o : ObjectNo) (mode : Mode)
 inside-below p w name o mode None is e = absurd cc
 inside-below p w name o mode (Some x) is e =
     let test : is_above_ceiling p w name x.ceiling ≡ false =
-    not_above (has_open name x.actions) (is_above_ceiling p w name x.ceiling) (excludes mode (without (is_action_of name) x.actions)) e in
+    not_above (has_open name x.actions) (is_above_ceiling p w name x.ceiling) (excludes mode (without (is_action_of name) x.actions)) (ap is_not_above e) in
     let parts = or_parts (ltb x.ceiling (active_of p w name)) (has_edf p && ltb x.ceiling (task_of w name).base) test in
     record {
       object = x;

@@ -25,7 +25,7 @@ use Rattle.ceiling_laws.proofs.Runs.Kept.Tasks.{same-alters}
 use Rattle.ceiling_laws.proofs.Runs.Kept.Waking.{who-is}
 use Rattle.ceiling_laws.proofs.Runs.LevelMoves.{EachTask, Fitting, is_blocked}
 use Rattle.ceiling_laws.proofs.Runs.SameLemmas.{edit_task-same}
-use Rattle.ceiling_laws.proofs.Runs.Triples.{Alters, Ends, Keeps, Leads, State, With, changes-keeps, changes-leads, for_some-keeps, from-leads, looks-keeps, nothing-leads, then-keeps, then-leads}
+use Rattle.ceiling_laws.proofs.Runs.Triples.{Alters, Ends, Keeps, Leads, State, With, changes-keeps, changes-leads, for_some-keeps, from-leads, looks-keeps, nothing-leads, then-keeps, then-leads, to-leads}
 use Rattle.ceiling_laws.proofs.Places.PartOrder.{by_test}
 use Rattle.ceiling_laws.specs.Cores.{Core, Same, core}
 use Rattle.ceiling_laws.proofs.Runs.Finer.{fine, fine_base, fine_same}
@@ -38,6 +38,7 @@ use Rattle.profile_machine.specs.Inheritance.{inherit, lose, same_cause}
 use Rattle.profile_machine.specs.Masters.{forget_task, waits_at_terminate}
 use Rattle.profile_machine.specs.Priorities.{set_or_defer_base, set_or_defer_deadline}
 use Rattle.profile_image.specs.Program.{next_of, protected_unit_of}
+use Rattle.profile_machine.specs.Protected.{find_held}
 use Rattle.profile_machine.specs.Rendezvous.{begin_accept, finish_without_room, meet_without_room}
 use Rattle.profile_machine.specs.Steps.{changes, for_some, is_part_before, looks, says, ◌▷◌}
 use Rattle.profile_machine.specs.Tasking.{add_task, create_task, says_created, says_done}
@@ -770,7 +771,8 @@ module _ (p : Image) (s : Levels) (a : Who) where
     appoints = λ t moment is. appoints-holds Whole (λ d c l h. (h.1 (same_self a)).0) t moment is;
     loses = lost_later p s a;
     sets_deferred = deferred_set p s a;
-    sets_base = λ t level. from-leads (set_or_defer_base p a (who.Task t) level) (starts_later p s a) (base_set_or_deferred p s a (who.Task t) level);
+    sets_base =
+        λ t level. from-leads (set_or_defer_base p a (who.Task t) level) (λ w said h. starts_later p s a w said h.0) (base_set_or_deferred p s a (who.Task t) level);
     sets_deadline = λ name deadline. from-leads (set_or_defer_deadline p a name deadline) (starts_later p s a) (deadline_set_or_deferred p s a name deadline);
     owes = owes_since p s a;
     loses_owed = owed_loses p s a;
@@ -788,13 +790,14 @@ module _ (p : Image) (s : Levels) (a : Who) where
     loses_last = dying_loses a refl;
     forgets_actor = forgets_dead;
     found_asleep = asleep_each (Good p s a);
-    creates = creates_later;
+    creates = λ st d id t. to-leads (create_task p a st d id t) (creates_later st d id t) (λ w said h. inl h);
     meets_late = meets_later;
     makes = made_object;
     may = λ w o mode e. tt;
+    may_held = λ w o mode e. tt;
     may_on = λ u w o same m. tt;
     enters = λ o mode. from-leads (says Own (line.Enter a o mode)) (λ w said h. starts_later p s a w said h.0) (keeps_says Whole Own (line.Enter a o mode) (λ n. refl));
     exits = λ name o. keeps_says Whole Own (line.Exit name o) (λ n. refl);
     exits_entered = λ name o. keeps_says Whole Own (line.Exit name o) (λ n. refl);
-    finds_held = held_later p s a;
+    finds_held = λ o mode. from-leads (find_held p a o mode) (λ w said h. h.0) (held_later p s a o mode);
   }

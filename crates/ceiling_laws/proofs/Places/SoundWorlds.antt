@@ -146,7 +146,7 @@ tail-known (who.Task k) low drawn t ts ns is h onward =
     }) (onward (suc k.0) h.1)
 tail-known who.Agent low drawn t ts ns is h onward = never h
 
-each-known : (low drawn : ℕ) (ts : List Task) → NamesFrom low drawn (map whose ts) → EachTask (Known low drawn ts) ts
+pub each-known : (low drawn : ℕ) (ts : List Task) → NamesFrom low drawn (map whose ts) → EachTask (Known low drawn ts) ts
 each-known low drawn [] h = tt
 each-known low drawn (t ∷ ts) h = (
   head-known t.who low drawn t ts (map whose ts) refl h,
@@ -186,7 +186,7 @@ map-whose : (ts : List Task) → map (λ (c : Core). c.who) (map core ts) ≡ ma
 map-whose [] = refl
 map-whose (t ∷ ts) = ap (λ ns. t.who ∷ ns) (map-whose ts)
 
-same-whose : (a b : World) → Same a b → map whose b.tasks ≡ map whose a.tasks
+pub same-whose : (a b : World) → Same a b → map whose b.tasks ≡ map whose a.tasks
 same-whose a b same = sym (map-whose b.tasks) ∙ ap (map (λ (c : Core). c.who)) same.tasks ∙ map-whose a.tasks
 
 pub sound-same : (a b : World) → Same a b → Sound a → Sound b

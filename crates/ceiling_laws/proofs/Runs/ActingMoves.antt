@@ -16,7 +16,7 @@ use Rattle.profile_machine.specs.Protected.{entering, find_held}
 use Rattle.profile_machine.specs.Rendezvous.{meet_without_room}
 use Rattle.profile_machine.specs.Steps.{Step, changes, says, ◌▷◌}
 use Rattle.profile_machine.specs.Tasking.{create_task, fall_from, says_done}
-use Rattle.profile_machine.specs.Tasks.{edit_task, is_made, waiting_of, with_state}
+use Rattle.profile_machine.specs.Tasks.{edit_task, is_made, is_who, waiting_of, with_state}
 use Rattle.profile_image.specs.Words.{same_who}
 use Rattle.profile_image.specs.declared.image.Image.{Image}
 use Rattle.profile_image.specs.declared.numbers.DeclNo.{DeclNo}
@@ -39,7 +39,7 @@ use Rattle.profile_machine.specs.declared.world.tasks.Task.{Task}
 use Rattle.profile_machine.specs.declared.world.tasks.Waiting.{Waiting}
 use Rattle.profile_machine.specs.declared.world.tasks.Waiting.TheVariants as waits_for
 use Rattle.std.proofs.Common.{inl, inr, ◌≡◌, ◌⊎◌}
-use Rattle.std.specs.Prelude.{List, None, Option, false, true, ℕ, ℤ}
+use Rattle.std.specs.Prelude.{List, None, Option, Some, false, find, true, ℕ, ℤ}
 use Rattle.trace_text.specs.declared.events.Mode.{Mode}
 use Rattle.trace_text.specs.declared.events.Who.{Who}
 use Rattle.trace_text.specs.declared.events.Who.TheVariants as who
@@ -54,6 +54,10 @@ pub record IsNew (p : Image) (t : Task) (w : World) : Type 0 where
   pub numbered : t.who ≡ who.Task (record { 0 = w.drawn.tasks })
   pub made : is_made t ≡ true
   pub undeferred : t.deferred_base ≡ None
+
+-- a task that a world has under its number
+abbrev pub IsFound : TaskNo → World → Type 0
+IsFound t w = (x : Task) × (find (is_who (who.Task t)) w.tasks ≡ Some x)
 
 -- what is kept also behind the line of an action that begins
 pub record LaterMoves (p : Image) (actor : Who) (Fits : Fitting) (Sleeps : Sleeping) (X : State) : Type 0 where
@@ -122,7 +126,7 @@ pub record ActingMoves (p : Image) (actor : Who) (Fits Narrow : Fitting) (Sleeps
   -- priorities that are lost and set
   pub loses : (cause : Cause) → Keeps I (lose_running p actor cause)
   pub sets_deferred : Keeps I (set_deferred p actor)
-  pub sets_base : (t : TaskNo) (level : ℕ) → Leads F I (set_or_defer_base p actor (who.Task t) level)
+  pub sets_base : (t : TaskNo) (level : ℕ) → Leads (With F (IsFound t)) I (set_or_defer_base p actor (who.Task t) level)
   pub sets_deadline : (name : Who) (deadline : ℤ) → Leads F I (set_or_defer_deadline p actor name deadline)
   pub owes : (w : World) (said : List Said) → I w said → O w w said
   pub loses_owed : (before w : World) (said : List Said) → O before w said → O before (lose actor inherited_by.Activation w) said
@@ -142,8 +146,8 @@ pub record ActingMoves (p : Image) (actor : Who) (Fits Narrow : Fitting) (Sleeps
   pub loses_last : (w : World) (said : List Said) → D w said → D (lose actor inherited_by.Activation w) said
   pub forgets_actor : Leads D Y (changes (forget_task actor))
   pub found_asleep : (w : World) (said : List Said) → Y w said → EachTask (λ t. is_blocked t.state ≡ true → Sleeps w t.who) w.tasks
-  -- a task is created
-  pub creates : (s : StatementNo) (d : DeclNo) (id : Option ScopeId) (t : Task) → Leads (With F (IsNew p t)) I (create_task p actor s d id t)
+  -- a task is created, and no line of an earlier part follows
+  pub creates : (s : StatementNo) (d : DeclNo) (id : Option ScopeId) (t : Task) → Leads (With F (IsNew p t)) (Either I J) (create_task p actor s d id t)
   -- a call that is sent on and has no room at the accept has ended before the acceptor becomes ready
   pub meets_late : (t : TaskNo) (s : StatementNo) (c : Call)
       → Leads (With I (λ w. Sleeps w (who.Task t))) I
@@ -151,8 +155,9 @@ pub record ActingMoves (p : Image) (actor : Who) (Fits Narrow : Fitting) (Sleeps
   -- protected objects
   pub makes : (l : Located) (u : ProtectedUnitNo) → Keeps I (changes (with_object p l u) ▷ says_object p l u)
   pub may : (w : World) (o : ObjectNo) (mode : Mode) → entering p w actor o mode ≡ entering_is.Inside → May w o
+  pub may_held : (w : World) (o : ObjectNo) (mode : Mode) → entering p w actor o mode ≡ entering_is.Held → May w o
   pub may_on : (a b : World) (o : ObjectNo) → Same a b → May a o → May b o
   pub enters : (o : ObjectNo) (mode : Mode) → Leads (With F (λ w. May w o)) J (says Own (line.Enter actor o mode))
   pub exits : (name : Who) (o : ObjectNo) → Keeps I (says Own (line.Exit name o))
   pub exits_entered : (name : Who) (o : ObjectNo) → Keeps J (says Own (line.Exit name o))
-  pub finds_held : (o : ObjectNo) (mode : Mode) → Leads F (Either I J) (find_held p actor o mode)
+  pub finds_held : (o : ObjectNo) (mode : Mode) → Leads (With F (λ w. May w o)) (Either I J) (find_held p actor o mode)

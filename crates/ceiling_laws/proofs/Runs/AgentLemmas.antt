@@ -140,9 +140,10 @@ module _ (p : Image) where
     entered = late_base agent_base;
     starts = λ w said h. h;
     may = λ w o mode e. tt;
+    may_held = λ w o mode e. tt;
     may_on = λ a b o same m. tt;
     enters = λ o mode. from-leads (says Own (line.Enter actor o mode)) (λ w said h. h.0) (any_line Own (line.Enter actor o mode));
-    finds_held = λ o mode. later-leads (says Own (line.Held actor o mode)) (λ w said h. h) (any_line Own (line.Held actor o mode));
+    finds_held = λ o mode. from-leads _ (λ w said h. h.0) (later-leads (says Own (line.Held actor o mode)) (λ w said h. h) (any_line Own (line.Held actor o mode)));
     bases_first =
         λ t level.
         then-keeps _ _ (changes-keeps _ (task_alters t (λ u. record u { base = level }))) (any_line (part_of actor (who.Task t)) (line.Base t level));

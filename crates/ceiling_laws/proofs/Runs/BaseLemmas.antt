@@ -439,10 +439,11 @@ module _ (p : Image) (shown : List (ℕ × ℕ)) where
     entered = late_base bases_base;
     starts = no_bases-tells shown;
     may = λ w o mode e. tt;
+    may_held = λ w o mode e. tt;
     may_on = λ a b o same m. tt;
     enters =
         λ o mode. from-leads (says Own (line.Enter actor o mode)) (λ w said h. no_bases-tells shown w said h.0) (bases_says Own (line.Enter actor o mode) refl);
-    finds_held = λ o mode. later-leads (says Own (line.Held actor o mode)) (no_bases-tells shown) (bases_says Own (line.Held actor o mode) refl);
+    finds_held = λ o mode. from-leads _ (λ w said h. h.0) (later-leads (says Own (line.Held actor o mode)) (no_bases-tells shown) (bases_says Own (line.Held actor o mode) refl));
     bases_first = λ t level. bases_set_first actor t level;
     bases = λ t level. bases_set t level;
     defers =

@@ -243,9 +243,10 @@ module _ (p : Image) (shown : List (ℕ × ℕ)) where
     entered = late_base ceilings_base;
     starts = λ w said h. h;
     may = λ w o mode e. tt;
+    may_held = λ w o mode e. tt;
     may_on = λ a b o same m. tt;
     enters = λ o mode. from-leads (says Own (line.Enter actor o mode)) (λ w said h. h.0) (ceilings_says Own (line.Enter actor o mode) refl);
-    finds_held = λ o mode. later-leads (says Own (line.Held actor o mode)) (λ w said h. h) (ceilings_says Own (line.Held actor o mode) refl);
+    finds_held = λ o mode. from-leads _ (λ w said h. h.0) (later-leads (says Own (line.Held actor o mode)) (λ w said h. h) (ceilings_says Own (line.Held actor o mode) refl));
     bases_first = λ t level. ceilings_bases (part_of actor (who.Task t)) t level;
     bases = λ t level. ceilings_bases ThePlacing t level;
     defers = λ t deferred. ceilings_edits (who.Task t) (λ u. record u { deferred_base = deferred });

@@ -103,7 +103,16 @@ seen-some : (found : Option Task) (x : Task) → option_map core found ≡ Some 
 seen-some None x e = absurd cc
 seen-some (Some y) x e = (y, refl, let one : core y ≡ core x = cc in one)
 
+found-alike : (xs ys : List Task) (n : Who) (x : Task) → map core ys ≡ map core xs → find (is_who n) ys ≡ Some x
+    → (y : Task) × (find (is_who n) xs ≡ Some y) × (core y ≡ core x)
+found-alike xs ys n x alike e =
+    seen-some (find (is_who n) xs) x (seen-found n xs ∙ ap (seen_in n) (sym alike) ∙ sym (seen-found n ys) ∙ ap (option_map core) e)
+
 pub found-same : (a b : World) (n : Who) (x : Task) → Same a b → find (is_who n) b.tasks ≡ Some x
     → (y : Task) × (find (is_who n) a.tasks ≡ Some y) × (core y ≡ core x)
-found-same a b n x same e =
-    seen-some (find (is_who n) a.tasks) x (seen-found n a.tasks ∙ ap (seen_in n) (sym same.tasks) ∙ sym (seen-found n b.tasks) ∙ ap (option_map core) e)
+found-same a b n x same e = found-alike a.tasks b.tasks n x same.tasks e
+
+-- and the other way round
+pub found-on : (a b : World) (n : Who) (x : Task) → Same a b → find (is_who n) a.tasks ≡ Some x
+    → (y : Task) × (find (is_who n) b.tasks ≡ Some y) × (core y ≡ core x)
+found-on a b n x same e = found-alike b.tasks a.tasks n x (sym same.tasks) e

@@ -14,7 +14,7 @@ use Rattle.ceiling_laws.proofs.Runs.LevelMoves.{Silences, said_so}
 use Rattle.ceiling_laws.proofs.Runs.RunLemmas.{Others, behind_onward, settles_onward}
 use Rattle.ceiling_laws.proofs.Runs.Triples.{Alters, Ends, Keeps, Leads, State, With, changes-keeps, for_some-keeps}
 use Rattle.ceiling_laws.proofs.Runs.Triples.{from-leads, from_at, looks-keeps, nothing-keeps, then-keeps}
-use Rattle.ceiling_laws.proofs.Ceilings.CeilingLemmas.{second_false, not_less, not_above}
+use Rattle.ceiling_laws.proofs.Ceilings.CeilingLemmas.{is_not_above, not_above, not_less, second_false}
 use Rattle.ceiling_laws.proofs.Places.EditLemmas.{active_core}
 use Rattle.ceiling_laws.specs.Cores.{Core, Same, ceiling_in, core}
 use Rattle.ceiling_laws.specs.RunLaws.{AreCeilingsShown, InstantsKeepCeilings, ShowsPlace, ShowsRunner, TocksKeepCeilings, keep_ceilings}
@@ -51,7 +51,6 @@ use Rattle.profile_machine.specs.declared.world.lines.Part.{Part}
 use Rattle.profile_machine.specs.declared.world.lines.Part.TheVariants.{Own, TheBlock, ThePlacing}
 use Rattle.profile_machine.specs.declared.world.lines.Said.{Said}
 use Rattle.profile_machine.specs.declared.world.marks.Purpose.TheVariants as opened_for
-use Rattle.profile_machine.specs.declared.world.objects.Entering.TheVariants as entering_is
 use Rattle.profile_machine.specs.declared.world.objects.Object.{Object}
 use Rattle.profile_machine.specs.declared.world.scopes.Located.{Located}
 use Rattle.profile_machine.specs.declared.world.scopes.ScopeId.{ScopeId}
@@ -77,11 +76,11 @@ MayEnter : Image → Who → Admitting
 MayEnter p name w o =
     (c : ℕ) × (ceiling_at o (map ceiling_in w.objects) ≡ Some c) × (active p (task_of w name) ≤ c) × (has_edf p ≡ true → (task_of w name).base ≤ c)
 
-inside-may : (p : Image) (name : Who) (w : World) (o : ObjectNo) (mode : Mode) (found : Option Object) → object_of w o ≡ found
-    → entering_option p w name found mode ≡ entering_is.Inside → MayEnter p name w o
+comes-may : (p : Image) (name : Who) (w : World) (o : ObjectNo) (mode : Mode) (found : Option Object) → object_of w o ≡ found
+    → is_not_above (entering_option p w name found mode) ≡ true → MayEnter p name w o
 unfolding MayEnter
-inside-may p name w o mode None is e = absurd cc
-inside-may p name w o mode (Some x) is e =
+comes-may p name w o mode None is e = absurd cc
+comes-may p name w o mode (Some x) is e =
     let test : is_above_ceiling p w name x.ceiling ≡ false =
     not_above (has_open name x.actions) (is_above_ceiling p w name x.ceiling) (excludes mode (without (is_action_of name) x.actions)) e in
     let parts = or_parts (ltb x.ceiling (active_of p w name)) (has_edf p && ltb x.ceiling (task_of w name).base) test in (
@@ -269,10 +268,11 @@ enter_free p v name sight place = record {
   later = none_base p;
   entered = one_base p sight;
   starts = first_none v name sight;
-  may = λ w o mode e. inside-may p name w o mode (object_of w o) refl e;
+  may = λ w o mode e. comes-may p name w o mode (object_of w o) refl (ap is_not_above e);
+  may_held = λ w o mode e. comes-may p name w o mode (object_of w o) refl (ap is_not_above e);
   may_on = may-on p name;
   enters = λ o mode. enters_first p v name sight o mode place;
-  finds_held = λ o mode. later-leads (says Own (line.Held name o mode)) (first_none v name sight) (none_says Own (line.Held name o mode) refl);
+  finds_held = λ o mode. from-leads _ (λ w said h. h.0) (later-leads (says Own (line.Held name o mode)) (first_none v name sight) (none_says Own (line.Held name o mode) refl));
   bases_first = λ t level. from-leads _ (first_none v name sight) (none_bases (part_of name (who.Task t)) t level);
   bases = λ t level. none_bases ThePlacing t level;
   defers = λ t deferred. none_alters (edit_task (who.Task t) (λ u. record u { deferred_base = deferred }));

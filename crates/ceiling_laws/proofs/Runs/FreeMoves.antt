@@ -11,7 +11,7 @@ use Rattle.ceiling_laws.proofs.Runs.Kept.Rendezvous.{begin_accept-keeps, finish_
 use Rattle.ceiling_laws.proofs.Runs.Kept.Tasks.{edit_task-alters}
 use Rattle.ceiling_laws.proofs.Runs.LevelMoves.{BaseMoves, EachTask, Fitting, Silences, Sleeping}
 use Rattle.ceiling_laws.proofs.Runs.Triples.{Alters, At, Keeps, Leads, State, With, branch-keeps, branch-leads, changes-keeps, from-leads, from_at, looks-keeps}
-use Rattle.ceiling_laws.proofs.Runs.Triples.{looks-leads, looks-with, nothing-keeps, then-keeps, then-leads, then-together, when-keeps, when-leads}
+use Rattle.ceiling_laws.proofs.Runs.Triples.{looks-leads, looks-with, nothing-keeps, then-keeps, then-leads, then-together, to-leads, when-keeps, when-leads}
 use Rattle.ceiling_laws.specs.Cores.{Same}
 use Rattle.ceiling_laws.proofs.Runs.Finer.{fine, fine_base}
 use Rattle.profile_machine.specs.Appointments.{appoint}
@@ -52,7 +52,7 @@ use Rattle.profile_machine.specs.declared.world.tasks.State.TheVariants.{Blocked
 use Rattle.profile_machine.specs.declared.world.tasks.Task.{Task}
 use Rattle.profile_machine.specs.declared.world.tasks.Waiting.{Waiting}
 use Rattle.profile_machine.specs.declared.world.tasks.Waiting.TheVariants as waits_for
-use Rattle.std.proofs.Common.{refl, ◌≡◌}
+use Rattle.std.proofs.Common.{inl, refl, ◌≡◌}
 use Rattle.std.specs.Prelude.{Bool, List, None, Option, Some, [], cond, eqb, false, not, slice_index_or, true, ℕ, ℤ, ◌&&◌, ◌∷◌}
 use Rattle.trace_text.specs.declared.events.Mode.{Mode}
 use Rattle.trace_text.specs.declared.events.QueueEnd.{QueueEnd}
@@ -91,10 +91,11 @@ pub record FreeMoves (p : Image) (actor : Who) (May : Admitting) (F I J : State)
   pub entered : FreeBase p LatePart J
   pub starts : (w : World) (said : List Said) → F w said → I w said
   pub may : (w : World) (o : ObjectNo) (mode : Mode) → entering p w actor o mode ≡ entering_is.Inside → May w o
+  pub may_held : (w : World) (o : ObjectNo) (mode : Mode) → entering p w actor o mode ≡ entering_is.Held → May w o
   pub may_on : (a b : World) (o : ObjectNo) → Same a b → May a o → May b o
   pub enters : (o : ObjectNo) (mode : Mode) → Leads (With F (λ w. May w o)) J (says Own (line.Enter actor o mode))
   -- who finds an object held goes on as who acts later does, or as behind the line of an action that begins
-  pub finds_held : (o : ObjectNo) (mode : Mode) → Leads F (Either I J) (says Own (line.Held actor o mode))
+  pub finds_held : (o : ObjectNo) (mode : Mode) → Leads (With F (λ w. May w o)) (Either I J) (says Own (line.Held actor o mode))
   -- base priorities that are set and deferred; what the agent may have deferred is set too
   pub bases_first : (t : TaskNo) (level : ℕ)
       → Leads F I (changes (edit_task (who.Task t) (λ u. record u { base = level })) ▷ says (part_of actor (who.Task t)) (line.Base t level))
@@ -315,7 +316,7 @@ module _ {p : Image} {actor : Who} {May : Admitting} {F I J : State} (free : Fre
       (deliver-keeps (fine_base (base_free free.later any_part (λ part name f. tt))) TheFinish c.number (call_ended.ToRaise exception.Storage) (λ name. tt))
       (then-keeps _ _ (ready-free free.later TheFinish (who.Task t) tt) (raises-keeps (fine free.later.quiet) TheFinish (who.Task t) exception.Storage))))
 
-  find_held-free : (o : ObjectNo) (mode : Mode) → Leads F (Either I J) (find_held p actor o mode)
+  find_held-free : (o : ObjectNo) (mode : Mode) → Leads (With F (λ w. May w o)) (Either I J) (find_held p actor o mode)
   unfolding find_held
   find_held-free o mode =
       then-leads (says Own (line.Held actor o mode)) _ (free.finds_held o mode)
@@ -346,7 +347,7 @@ module _ {p : Image} {actor : Who} {May : Admitting} {F I J : State} (free : Fre
         appoints = λ t moment is. free.later.appoints t moment;
         loses = λ cause. lose_running-free free.later actor cause tt;
         sets_deferred = sets_deferred-free actor;
-        sets_base = λ t level. sets_base-free t level;
+        sets_base = λ t level. from-leads _ (λ w said h. h.0) (sets_base-free t level);
         sets_deadline = λ name d. from-leads _ free.starts (sets_deadline-free free.later actor name d (λ part. tt));
         owes = λ w said h. h;
         loses_owed = λ before w said h. (lose-alters free.later actor inherited_by.Activation).turns w said h;
@@ -364,10 +365,11 @@ module _ {p : Image} {actor : Who} {May : Admitting} {F I J : State} (free : Fre
         loses_last = λ w said h. (lose-alters free.later actor inherited_by.Activation).turns w said h;
         forgets_actor = changes-keeps _ (free.later.forgets actor);
         found_asleep = λ w said h. each-of _ (λ t e. tt) w.tasks;
-        creates = free.creates;
+        creates = λ s d id t. to-leads _ (free.creates s d id t) (λ w said h. inl h);
         meets_late = λ t s c. from-leads _ (λ w said h. h.0) (meets_late-free t s c);
         makes = free.makes;
         may = free.may;
+        may_held = free.may_held;
         may_on = free.may_on;
         enters = free.enters;
         exits = free.later.exits;

@@ -161,7 +161,7 @@ module _ {p : Image} {actor : Who} {Fits Narrow : Fitting} {Sleeps : Sleeping} {
   unfolding act_statement
   act_statement-leads s (form.Declare object) = later_on _ (declare-keeps (fine acting.later.base.quiet) p acting.makes actor s object)
   act_statement-leads s (form.Initialize object) = at_first _ (initialize-keeps (fine acting.fresh) p actor s object)
-  act_statement-leads s (form.CreateTask object part) = without _ (create-leads acting s object part)
+  act_statement-leads s (form.CreateTask object part) = by_entry _ (create-leads acting s object part)
   act_statement-leads s (form.Activate part) = later_on _ (activate-keeps acting s part)
   act_statement-leads s form.EndActivation = later_on _ (end_own_activation-keeps acting s)
   act_statement-leads s form.CallMain = at_first _ (call_main-keeps acting.fresh p actor s)

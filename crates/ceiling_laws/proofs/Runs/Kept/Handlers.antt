@@ -225,8 +225,8 @@ module _ {p : Image} {actor : Who} {Fits Narrow : Fitting} {Sleeps : Sleeping} {
       (has_entered acting (begin_handler p r) (begin_handler-leads r is))
       (goes_without acting (end_release r.number) (from-leads (end_release r.number) (admitted_starts acting r.handler.object) (release_ends r.number))))
 
-  held_as : (o : ObjectNo) (name : Who) → name ≡ actor → Leads F (Either I J) (find_held p name o Write)
-  held_as o name is = subst (λ n. Leads F (Either I J) (find_held p n o Write)) (sym is) (acting.finds_held o Write)
+  held_as : (o : ObjectNo) (name : Who) → name ≡ actor → Leads (Admitted acting o) (Either I J) (find_held p name o Write)
+  held_as o name is = subst (λ n. Leads (Admitted acting o) (Either I J) (find_held p n o Write)) (sym is) (acting.finds_held o Write)
 
   enter_handler-at : (v : World) (r : Release) (is : Entering) → who.Agent ≡ actor → entering p v who.Agent r.handler.object Write ≡ is
       → Leads (At F v) (Either I J) (enter_handler p r is)
@@ -236,7 +236,11 @@ module _ {p : Image} {actor : Who} {Fits Narrow : Fitting} {Sleeps : Sleeping} {
   enter_handler-at v r entering_is.AboveCeiling by e =
       goes_without acting (end_release r.number) (from-leads (end_release r.number) (λ w said h. acting.starts w said h.0) (release_ends r.number))
   enter_handler-at v r entering_is.Held by e =
-      from_at (find_held p who.Agent r.handler.object Write) (held_as r.handler.object who.Agent by)
+      let held : entering p v actor r.handler.object Write ≡ entering_is.Held =
+      subst (λ n. entering p v n r.handler.object Write ≡ entering_is.Held) by e in
+      from-leads (find_held p who.Agent r.handler.object Write)
+      (λ w said h. (h.0, subst (λ u. May u r.handler.object) (sym h.1) (acting.may_held v r.handler.object Write held)))
+      (held_as r.handler.object who.Agent by)
   enter_handler-at v r entering_is.Inside by e =
       let inside : entering p v actor r.handler.object Write ≡ entering_is.Inside =
       subst (λ n. entering p v n r.handler.object Write ≡ entering_is.Inside) by e in

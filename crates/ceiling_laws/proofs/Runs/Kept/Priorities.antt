@@ -2,18 +2,20 @@
 use Rattle.ann_base.specs.Results.{◌>>=◌}
 use Rattle.ann_base.specs.declared.exceptions.Raised.TheVariants as exception
 use Rattle.ann_base.specs.declared.identities.TaskNo.{TaskNo}
-use Rattle.ceiling_laws.proofs.Runs.ActingMoves.{ActingMoves, Admitting, LaterMoves}
+use Rattle.ceiling_laws.proofs.Runs.ActingMoves.{ActingMoves, Admitting, IsFound, LaterMoves}
+use Rattle.ceiling_laws.proofs.Runs.CoreLemmas.{found-on}
+use Rattle.ceiling_laws.proofs.Runs.SameLemmas.{edit_task-same, found_is_who}
 use Rattle.ceiling_laws.proofs.Fine.Kept.Calls.{edit_call-alters, edit_queue-alters, with_call-keeps}
 use Rattle.ceiling_laws.proofs.Fine.Kept.Frames.{given-keeps, given-through, goes-keeps, raise_if-keeps, raise_if-through, weakly}
 use Rattle.ceiling_laws.proofs.Runs.Kept.Tasks.{edit_task-alters, plain-alters, says-keeps}
-use Rattle.ceiling_laws.proofs.Runs.Kept.Waking.{each-any, found-each, inherit-alters}
+use Rattle.ceiling_laws.proofs.Runs.Kept.Waking.{inherit-alters, who-is}
 use Rattle.ceiling_laws.proofs.Runs.LevelMoves.{Fitting, Silences, Sleeping}
-use Rattle.ceiling_laws.proofs.Runs.Triples.{Alters, Keeps, Leads, State, changes-keeps, for_some-keeps, looks-keeps, nothing-keeps}
+use Rattle.ceiling_laws.proofs.Runs.Triples.{Alters, At, Keeps, Leads, State, With, changes-keeps, changes-leads, for_some-keeps, from_at, looks-keeps, looks-with, nothing-keeps}
 use Rattle.ceiling_laws.proofs.Runs.Triples.{sees-keeps, sees-leads, then-keeps, then-leads, unchanged-alters, when-keeps}
 use Rattle.ceiling_laws.proofs.Runs.Finer.{fine}
 use Rattle.profile_machine.specs.Calls.{place_of_entry, put_call, take_call}
 use Rattle.profile_machine.specs.Dispatching.{active_of, to_tail}
-use Rattle.profile_machine.specs.Frames.{goes, in_protected}
+use Rattle.profile_machine.specs.Frames.{edit_first, edit_top, goes, goes_on, in_protected}
 use Rattle.profile_machine.specs.Inheritance.{inherit, inherit_running, rises, same_cause}
 use Rattle.profile_machine.specs.Operators.{Valued, held_moment, ticks}
 use Rattle.profile_machine.specs.Priorities.{call_waited_for, delay_and_set_deadline, delay_with_deadline, is_edf_base, is_queued}
@@ -21,9 +23,9 @@ use Rattle.profile_machine.specs.Priorities.{placed_anew, priority_in_range, qua
 use Rattle.profile_machine.specs.Priorities.{set_base_of, set_deadline_of, set_or_defer_base, set_priority, set_quantum, with_priority}
 use Rattle.profile_image.specs.Program.{interrupt_priority, next_of}
 use Rattle.profile_machine.specs.Statements.{delay_to, delay_until, wait_until}
-use Rattle.profile_machine.specs.Tasks.{found_task, is_who}
-use Rattle.profile_machine.specs.Values.{live_task, moment, optional_task, value, whole_in, must_be_task}
-use Rattle.profile_image.specs.Words.{edit_at, same_who}
+use Rattle.profile_machine.specs.Tasks.{found_task, with_frames}
+use Rattle.profile_machine.specs.Values.{seen_by, live_task, moment, optional_task, value, whole_in, must_be_task}
+use Rattle.profile_image.specs.Words.{edit_at}
 use Rattle.profile_image.specs.declared.image.Image.{Image}
 use Rattle.profile_image.specs.declared.image.Queuing.{Queuing}
 use Rattle.profile_image.specs.declared.image.Queuing.TheVariants as queuing
@@ -39,8 +41,8 @@ use Rattle.profile_machine.specs.declared.world.tasks.Cause.TheVariants as inher
 use Rattle.profile_machine.specs.declared.world.tasks.Task as world
 use Rattle.profile_machine.specs.declared.world.tasks.Waiting.{Waiting}
 use Rattle.profile_machine.specs.declared.world.tasks.Waiting.TheVariants as waits_for
-use Rattle.std.proofs.Common.{refl, subst, sym, ◌≡◌}
-use Rattle.std.specs.Prelude.{Bool, List, None, Option, Some, false, int_lt, pos, true, ℕ, ℤ, ◌+ℤ◌, ◌||◌}
+use Rattle.std.proofs.Common.{ap, refl, subst, sym, ◌∙◌, ◌≡◌}
+use Rattle.std.specs.Prelude.{Bool, None, Option, Some, false, int_lt, pos, true, ℕ, ℤ, ◌+ℤ◌, ◌||◌}
 use Rattle.trace_text.specs.declared.events.Who.{Who}
 use Rattle.trace_text.specs.declared.events.Who.TheVariants as who
 use Rattle.machine_laws.proofs.FineMoves.{Naming}
@@ -96,29 +98,37 @@ module _ {p : Image} {actor : Who} {Fits : Fitting} {Sleeps : Sleeping} {X : Sta
 module _ {p : Image} {actor : Who} {Fits Narrow : Fitting} {Sleeps : Sleeping} {May : Admitting} {Listed Unmade : World → Naming} {F I J W Y D : State}
     {O N V U : World → State} {E : World → Who → State}
     (acting : ActingMoves p actor Fits Narrow Sleeps May Listed Unmade F I J W Y D O N V U E) where
-  -- who was found by the name of a task is one
-  base_of_named : (t : TaskNo) (name : Who) (level : ℕ) → same_who (who.Task t) name ≡ true → Leads F I (set_or_defer_base p actor name level)
-  base_of_named t (who.Task n) level is = acting.sets_base n level
-  base_of_named t who.Agent level is = absurd cc
+  -- who was found by the name of a task is one, and goes on being found
+  base_of_named : (t : TaskNo) (name : Who) (level : ℕ) → who.Task t ≡ name → Leads (With F (IsFound t)) I (set_or_defer_base p actor name level)
+  base_of_named t name level is = subst (λ n. Leads (With F (IsFound t)) I (set_or_defer_base p actor n level)) is (acting.sets_base t level)
 
-  base_of_found : (s : StatementNo) (level : ℕ) (t : TaskNo) (tasks : List world.Task) (found : Option world.Task) → found_task (who.Task t) tasks ≡ found
-      → Leads F I (set_base_of p actor s level found)
+  goes-found : (v : World) (t : TaskNo) (u : world.Task) (onward : Option StatementNo) → found_task (who.Task t) v.tasks ≡ Some u
+      → Leads (At F v) (With F (IsFound t)) (goes actor onward)
+  unfolding goes
+  goes-found v t u onward is =
+      changes-leads (edit_top actor (goes_on onward)) (λ w said h.
+      let same = edit_task-same actor (λ x. with_frames (edit_first (goes_on onward) x.frames) x) w (λ x. refl) in
+      let on = found-on w (edit_top actor (goes_on onward) w) (who.Task t) u same (ap (λ (a : World). found_task (who.Task t) a.tasks) h.1 ∙ is) in
+      (acting.fresh.silently w (edit_top actor (goes_on onward) w) said same h.0, (on.0, on.1)))
+
+  base_of_found : (v : World) (s : StatementNo) (level : ℕ) (t : TaskNo) (found : Option world.Task) → found_task (who.Task t) v.tasks ≡ found
+      → Leads (At F v) I (set_base_of p actor s level found)
   unfolding set_base_of
-  base_of_found s level t tasks None is =
-      weakly (fine acting.fresh) acting.starts (goes actor (next_of p s)) (goes-keeps (fine acting.fresh) actor (next_of p s))
-  base_of_found s level t tasks (Some u) is =
-      raise_if-through (fine acting.fresh) (λ w k h. h) acting.starts actor (is_edf_base p u.base || is_edf_base p level) exception.Program _
-      (then-leads (goes actor (next_of p s)) (set_or_defer_base p actor u.who level) (goes-keeps (fine acting.fresh) actor (next_of p s))
-      (base_of_named t u.who level (found-each (λ v. Unit {0}) (is_who (who.Task t)) tasks u (each-any tasks) is).1))
+  base_of_found v s level t None is =
+      from_at (goes actor (next_of p s)) (weakly (fine acting.fresh) acting.starts (goes actor (next_of p s)) (goes-keeps (fine acting.fresh) actor (next_of p s)))
+  base_of_found v s level t (Some u) is =
+      raise_if-through (fine acting.fresh) (λ w k h. h.0) acting.starts actor (is_edf_base p u.base || is_edf_base p level) exception.Program _
+      (then-leads (goes actor (next_of p s)) (set_or_defer_base p actor u.who level) (goes-found v t u (next_of p s) is)
+      (base_of_named t u.who level (who-is (who.Task t) u.who (found_is_who (who.Task t) u v.tasks is))))
 
   pub set_priority-leads : (s : StatementNo) (e : ExprNo) (task : Option ExprNo) → Leads F I (set_priority p actor s e task)
   unfolding set_priority
   set_priority-leads s e task =
-      sees-leads p actor _ (λ q.
-      given-through (fine acting.fresh) (λ w k h. h) acting.starts Own actor (optional_task q task >>= must_be_task) _ (λ t.
-      given-through (fine acting.fresh) (λ w k h. h) acting.starts Own actor (value q e >>= λ v. priority_in_range (interrupt_priority p) (whole_in v)) _
+      looks-with _ (λ w said h. let q = seen_by p w actor in
+      given-through (fine acting.fresh) (λ v k m. m.0) acting.starts Own actor (optional_task q task >>= must_be_task) _ (λ t.
+      given-through (fine acting.fresh) (λ v k m. m.0) acting.starts Own actor (value q e >>= λ v. priority_in_range (interrupt_priority p) (whole_in v)) _
       (λ level.
-      base_of_found s level t q.world.tasks (found_task (who.Task t) q.world.tasks) refl)))
+      base_of_found w s level t (found_task (who.Task t) w.tasks) refl)))
 
   pub set_deadline_of-leads : (s : StatementNo) (e : ExprNo) (task : Option ExprNo) → Leads F I (set_deadline_of p actor s e task)
   unfolding set_deadline_of

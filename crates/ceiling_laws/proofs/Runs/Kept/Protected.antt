@@ -136,7 +136,7 @@ module _ {p : Image} {actor : Who} {Fits Narrow : Fitting} {Sleeps : Sleeping} {
   enter_or-at v o mode step entering_is.SameObject e kept = raises_at_first v exception.Program
   enter_or-at v o mode step entering_is.AboveCeiling e kept = raises_at_first v exception.Program
   enter_or-at v o mode step entering_is.Held e kept =
-      from_at (find_held p actor o mode) (acting.finds_held o mode)
+      from-leads (find_held p actor o mode) (λ w said h. (h.0, subst (λ u. May u o) (sym h.1) (acting.may_held v o mode e))) (acting.finds_held o mode)
   enter_or-at v o mode step entering_is.Inside e kept = from-leads step (λ w said h. (h.0, subst (λ u. May u o) (sym h.1) (acting.may v o mode e))) kept
 
   -- the step is done where who acts is let in

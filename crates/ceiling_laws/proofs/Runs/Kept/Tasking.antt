@@ -1,7 +1,7 @@
 -- Creation, activation, completion and abort: each step keeps what its parts keep.
 use Rattle.ann_base.specs.declared.exceptions.Raised.TheVariants as exception
 use Rattle.ann_base.specs.declared.identities.RegionNo.{RegionNo}
-use Rattle.ceiling_laws.proofs.Runs.ActingMoves.{ActingMoves, Admitting, IsNew, SelectMoves}
+use Rattle.ceiling_laws.proofs.Runs.ActingMoves.{ActingMoves, Admitting, Either, IsNew, SelectMoves}
 use Rattle.ceiling_laws.proofs.Fine.Kept.Controlled.{edit_top_scope-alters, finalize-keeps}
 use Rattle.ceiling_laws.proofs.Fine.Kept.Frames.{edit_top-alters, given-keeps, given-through, goes-keeps, pass_on-keeps}
 use Rattle.ceiling_laws.proofs.Fine.Kept.Frames.{pop-alters, raise_if-keeps, raise_if-through, raises-keeps, weakly}
@@ -55,7 +55,7 @@ use Rattle.profile_machine.specs.declared.world.scopes.ScopeId.{ScopeId}
 use Rattle.profile_machine.specs.declared.world.tasks.Task as world
 use Rattle.profile_machine.specs.declared.world.tasks.Waiting.{Waiting}
 use Rattle.profile_machine.specs.declared.world.tasks.Waiting.TheVariants as waits_for
-use Rattle.std.proofs.Common.{ap, refl, subst, sym, ◌∙◌, ◌≡◌}
+use Rattle.std.proofs.Common.{ap, inl, refl, subst, sym, ◌∙◌, ◌≡◌}
 use Rattle.std.specs.Prelude.{Bool, List, None, Option, Some, cond, eqb, false, filter, leb, length, true, ℕ, ◌||◌}
 use Rattle.std.proofs.lemmas.Bool.{and_parts}
 use Rattle.trace_text.specs.declared.events.Who.{Who}
@@ -131,17 +131,17 @@ module _ {p : Image} {actor : Who} {Fits Narrow : Fitting} {Sleeps : Sleeping} {
     {O N V U : World → State} {E : World → Who → State}
     (acting : ActingMoves p actor Fits Narrow Sleeps May Listed Unmade F I J W Y D O N V U E) where
   create_task-at : (v : World) (s : StatementNo) (d : DeclNo) (id : Option ScopeId) (t : world.Task) → IsNew p t v
-      → Leads (At F v) I (create_task p actor s d id t)
+      → Leads (At F v) (Either I J) (create_task p actor s d id t)
   create_task-at v s d id t new =
       from-leads (create_task p actor s d id t) (λ w said h. (h.0, subst (λ u. IsNew p t u) (sym h.1) new)) (acting.creates s d id t)
 
-  pub create-leads : (s : StatementNo) (d : DeclNo) (part : ℕ) → Leads F I (create p actor s d part)
+  pub create-leads : (s : StatementNo) (d : DeclNo) (part : ℕ) → Leads F (Either I J) (create p actor s d part)
   unfolding create
   create-leads s d part =
       looks-with _ (λ v said h. let q = seen_by p v actor in
-      raise_if-through (fine acting.fresh) (λ w k m. m.0) acting.starts actor (in_protected v actor || is_deferred v actor) exception.Program _
-      (raise_if-through (fine acting.fresh) (λ w k m. m.0) acting.starts actor (leb 256 (length v.tasks)) exception.Storage _
-      (given-through (fine acting.fresh) (λ w k m. m.0) acting.starts Own actor (optional_span q (task_unit_of p (unit_of_declaration p d)).relative_deadline) _
+      raise_if-through (fine acting.fresh) (λ w k m. m.0) (λ w k m. inl (acting.starts w k m)) actor (in_protected v actor || is_deferred v actor) exception.Program _
+      (raise_if-through (fine acting.fresh) (λ w k m. m.0) (λ w k m. inl (acting.starts w k m)) actor (leb 256 (length v.tasks)) exception.Storage _
+      (given-through (fine acting.fresh) (λ w k m. m.0) (λ w k m. inl (acting.starts w k m)) Own actor (optional_span q (task_unit_of p (unit_of_declaration p d)).relative_deadline) _
       (λ span.
       create_task-at v s d (home v (declaration_of p d).scope q.within) (created_task q d (unit_of_declaration p d) part span v.drawn.tasks)
       (record { numbered = refl; made = refl; undeferred = refl })))))

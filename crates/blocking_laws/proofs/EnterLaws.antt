@@ -1,5 +1,6 @@
 -- A law of the lines by which somebody enters an object, or finds one held: where who acts keeps it by what is shown before its effect,
 -- the lines of the effect keep it, since up to that line nothing is said of levels.
+use Rattle.ceiling_laws.proofs.Runs.EnterLemmas.{IsQuiet}
 use Rattle.ceiling_laws.proofs.Runs.LevelMoves.{is_apart, said_so}
 use Rattle.profile_machine.specs.Lines.{event_of}
 use Rattle.profile_machine.specs.Steps.{in_order, is_part_before}
@@ -11,8 +12,8 @@ use Rattle.std.proofs.Common.{Bool, List, [], ap, false, inl, inr, subst, sym, t
 use Rattle.line_laws.proofs.Ticks.LineByLine.{Follow}
 use Rattle.line_laws.proofs.Ticks.ReleaseLemmas.{events_of}
 use Rattle.trace_text.specs.declared.events.Event.{Event}
-use Rattle.blocking_laws.proofs.BegunLines.{Begun, Each, begun-append, begun-first, begun-in_order}
-use Rattle.blocking_laws.proofs.EnterLemmas.{IsLate, IsNoCome, IsQuiet, is_coming, quiet-is_coming, quiet-late}
+use Rattle.ceiling_laws.proofs.Runs.BegunLines.{Begun, Each, begun-append, begun-first, begun-in_order}
+use Rattle.blocking_laws.proofs.EnterLemmas.{IsLate, IsNoCome, is_coming, quiet-is_coming, quiet-late}
 
 late-none_comes : (xs : List Said) → Each IsLate xs → Each IsNoCome xs
 late-none_comes [] h = tt

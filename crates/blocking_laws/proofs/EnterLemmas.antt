@@ -1,4 +1,5 @@
 -- Lines of an effect by which somebody comes to an object, those before them, and those behind them.
+use Rattle.ceiling_laws.proofs.Runs.EnterLemmas.{IsQuiet}
 use Rattle.ceiling_laws.proofs.Runs.LevelMoves.{is_apart}
 use Rattle.profile_machine.specs.Steps.{is_part_before}
 use Rattle.profile_machine.specs.declared.world.lines.Line.{Line}
@@ -6,7 +7,7 @@ use Rattle.profile_machine.specs.declared.world.lines.Line.TheVariants as line
 use Rattle.profile_machine.specs.declared.world.lines.Part.TheVariants.{Own}
 use Rattle.profile_machine.specs.declared.world.lines.Said.{Said}
 use Rattle.std.proofs.Common.{Bool, List, [], false, inl, refl, true, ◌∷◌, ◌≡◌, ◌⊎◌}
-use Rattle.blocking_laws.proofs.BegunLines.{Each}
+use Rattle.ceiling_laws.proofs.Runs.BegunLines.{Each}
 
 -- somebody enters an object, or finds one held
 abbrev pub is_coming : Line → Bool
@@ -17,10 +18,7 @@ is_coming _ = false
 abbrev pub IsNoCome : Said → Type 0
 IsNoCome x = is_coming x.line ≡ false
 
--- a line before it says nothing of levels; one behind it says nothing of them either, or stands in a late part
-abbrev pub IsQuiet : Said → Type 0
-IsQuiet x = is_apart x.line ≡ false
-
+-- a line behind it says nothing of levels, or stands in a late part
 abbrev pub IsLate : Said → Type 0
 IsLate x = IsNoCome x × (IsQuiet x ⊎ (is_part_before x.part Own ≡ false))
 

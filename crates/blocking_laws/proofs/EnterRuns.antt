@@ -1,11 +1,12 @@
 -- A law of the lines by which somebody comes to an object, in effects, in instants and in runs: one record of what is known of who acts.
+use Rattle.ceiling_laws.proofs.Runs.EnterLemmas.{IsQuiet}
 use Rattle.ann_base.specs.declared.identities.ObjectNo.{ObjectNo}
 use Rattle.ann_base.specs.declared.identities.TaskNo.{TaskNo}
 use Rattle.ceiling_laws.proofs.Fine.Kept.Frames.{goes-keeps, open_sequence-keeps}
 use Rattle.ceiling_laws.proofs.Fine.Kept.Scopes.{open_scope-alters}
 use Rattle.ceiling_laws.proofs.Runs.ActingMoves.{Admitting, Either}
-use Rattle.blocking_laws.proofs.BegunLines.{Each, each-append, each-in_order}
-use Rattle.blocking_laws.proofs.EnterLemmas.{IsLate, IsNoCome, IsQuiet, all_quiet-none_comes, is_coming, quiet-is_coming, quiet-late}
+use Rattle.ceiling_laws.proofs.Runs.BegunLines.{Each, each-append, each-in_order}
+use Rattle.blocking_laws.proofs.EnterLemmas.{IsLate, IsNoCome, all_quiet-none_comes, is_coming, quiet-is_coming, quiet-late}
 use Rattle.ceiling_laws.proofs.Runs.Finer.{fine}
 use Rattle.ceiling_laws.proofs.Runs.FreeMoves.{EveryPart, FreeBase, FreeMoves, LatePart, any_task, any_world}
 use Rattle.ceiling_laws.proofs.Runs.FreeMoves.{free_others, freely, ready_by_line, replace_in-free, to_tail-free}

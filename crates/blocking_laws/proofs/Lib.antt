@@ -1,4 +1,3 @@
-pub mod BegunLines
 pub mod BlockedLemmas
 pub mod BoundLemmas
 pub mod CalmLemmas

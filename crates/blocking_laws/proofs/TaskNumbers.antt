@@ -59,7 +59,7 @@ use Rattle.trace_text.specs.declared.events.Event.{Event}
 use Rattle.trace_text.specs.declared.events.Event.TheVariants as written
 use Rattle.trace_text.specs.declared.events.Who.{Who}
 use Rattle.trace_text.specs.declared.events.Who.TheVariants as who
-use Rattle.blocking_laws.proofs.BegunLines.{Begun, Each, begun-append, begun-first, begun-in_order, each-append, each-in_order}
+use Rattle.ceiling_laws.proofs.Runs.BegunLines.{Begun, Each, begun-append, begun-first, begun-in_order, each-append, each-in_order}
 use Rattle.blocking_laws.proofs.CountedLines.{count_after, counts, known-follows, new-follows}
 use Rattle.blocking_laws.proofs.KnownMoves.{IsDrawn, IsNumbered, KnownBase, KnownMoves, edited-names, known_others, knowing, names_drawn, tested-drawn, to_tail-known}
 use Rattle.blocking_laws.specs.TaskLines.{RunsNumberTasks, RunsPlaceKnown, is_task_new, places_known}

@@ -1,4 +1,5 @@
 pub mod SameLemmas
+pub mod BegunLines
 pub mod FoldOrder
 pub mod Triples
 pub mod LevelMoves

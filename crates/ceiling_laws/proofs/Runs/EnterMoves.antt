@@ -2,10 +2,10 @@
 use Rattle.ann_base.specs.declared.identities.ObjectNo.{ObjectNo}
 use Rattle.ann_base.specs.declared.identities.TaskNo.{TaskNo}
 use Rattle.ceiling_laws.proofs.Runs.ActingMoves.{Admitting, Either, later-leads}
+use Rattle.ceiling_laws.proofs.Runs.BegunLines.{Each, each-append, each-in_order}
+use Rattle.ceiling_laws.proofs.Runs.EnterLemmas.{Entered, IsLate, IsNoEnter, IsQuiet, Lawful, all_quiet-no_enter, entered-append, entered-begins}
+use Rattle.ceiling_laws.proofs.Runs.EnterLemmas.{entered-in_order, entered-lawful, is_enter, no_enters-lawful, quiet-late, quiet-no_enter}
 use Rattle.ceiling_laws.proofs.Runs.CoreLemmas.{ceiling-found, ceiling_at, core-same, shown-at, shown-fewer, shown-same}
-use Rattle.ceiling_laws.proofs.Runs.EnterLemmas.{AllQuiet, Entered, IsLate, Lawful, NoEnter, all_quiet-append, all_quiet-no_enter}
-use Rattle.ceiling_laws.proofs.Runs.EnterLemmas.{entered-append, entered-begins, entered-in_order, entered-lawful, is_enter}
-use Rattle.ceiling_laws.proofs.Runs.EnterLemmas.{no_enter-append, no_enter-in_order, no_enters-lawful, quiet-late, quiet-no_enter}
 use Rattle.ceiling_laws.proofs.Runs.FreeMoves.{EveryPart, FreeBase, FreeMoves, LatePart, any_task, any_world}
 use Rattle.ceiling_laws.proofs.Runs.FreeMoves.{free_others, freely, ready_by_line, replace_in-free, to_tail-free}
 use Rattle.ceiling_laws.proofs.Runs.Kept.Act.{effect-leads}
@@ -122,10 +122,10 @@ below_shown p w name sight o mode place shown may =
 -- ---- the states
 
 AtFirst : World → Who → Levels → State
-AtFirst v name sight w said = (core (task_of w name) ≡ core (task_of v name)) × AllQuiet said × AreCeilingsShown sight.ceilings w.objects
+AtFirst v name sight w said = (core (task_of w name) ≡ core (task_of v name)) × Each IsQuiet said × AreCeilingsShown sight.ceilings w.objects
 
 None_enter : State
-None_enter w said = NoEnter said
+None_enter w said = Each IsNoEnter said
 
 OneEnters : Levels → State
 OneEnters sight w said = Entered sight said
@@ -139,7 +139,7 @@ first_quiet : (v : World) (name : Who) (sight : Levels) → Silences (AtFirst v 
 unfolding AtFirst
 first_quiet v name sight = record {
   silently = λ a b said same h. (core-same a b name same ∙ h.0, h.1, shown-same sight.ceilings a.objects b.objects same.objects h.2);
-  says = λ part line w said other h. (h.0, all_quiet-append said (said_so part line) h.1 other, h.2);
+  says = λ part line w said other h. (h.0, each-append IsQuiet said (said_so part line) h.1 other, h.2);
   ends_scope = λ id w said h. (h.0, h.1, shown-fewer sight.ceilings (λ x. not (goes_with id x)) w.objects h.2);
 }
 
@@ -151,7 +151,7 @@ none_quiet : Silences None_enter
 unfolding None_enter
 none_quiet = record {
   silently = λ a b said same h. h;
-  says = λ part line w said other h. no_enter-append said (said_so part line) h (quiet-no_enter line other);
+  says = λ part line w said other h. each-append IsNoEnter said (said_so part line) h (quiet-no_enter line other);
   ends_scope = λ id w said h. h;
 }
 
@@ -161,7 +161,7 @@ none_alters f = record { turns = λ w said h. h }
 
 none_says : (part : Part) (line : Line) → is_enter line ≡ false → Keeps None_enter (says part line)
 unfolding None_enter Ends
-none_says part line other = record { runs = λ w said h. no_enter-append said (said_so part line) h other }
+none_says part line other = record { runs = λ w said h. each-append IsNoEnter said (said_so part line) h other }
 
 none_base : (p : Image) → FreeBase p EveryPart None_enter
 none_base p = record {
@@ -285,7 +285,7 @@ enter_free p v name sight place = record {
 
 either-lawful : (p : Image) (sight : Levels) (d : Done) → Ends (Either None_enter (OneEnters sight)) d → Lawful sight (settled p d).1
 unfolding Ends None_enter OneEnters
-either-lawful p sight (done w xs) (inl h) = no_enters-lawful p sight (in_order xs) (no_enter-in_order xs h)
+either-lawful p sight (done w xs) (inl h) = no_enters-lawful p sight (in_order xs) (each-in_order IsNoEnter xs h)
 either-lawful p sight (done w xs) (inr h) = entered-lawful p sight (in_order xs) (entered-in_order sight xs h)
 
 first_holds : (w : World) (name : Who) (sight : Levels) → AreCeilingsShown sight.ceilings w.objects → AtFirst w name sight w []
@@ -320,7 +320,7 @@ beside p sight = (
   any_task,
   free_others (none_base p),
   (λ w h. tt),
-  (λ v xs h. record { follow = no_enters-lawful p sight (in_order xs) (no_enter-in_order xs h); shows = tt }),
+  (λ v xs h. record { follow = no_enters-lawful p sight (in_order xs) (each-in_order IsNoEnter xs h); shows = tt }),
 )
 
 follow-test : (sight : Levels) (lines : List Event) → Lawful sight lines → keep_ceilings sight lines ≡ true
@@ -356,4 +356,4 @@ unfolding AnySight None_enter
 opening_keeps_ceilings p script sight =
     follow-test sight (opening p script).1
     (settles_onward see_levels is_below_ceiling AnySight p sight None_enter None_enter (opens p) (blank_world p script)
-    (λ v xs h. record { follow = no_enters-lawful p sight (in_order xs) (no_enter-in_order xs h); shows = tt }) (none_opens p) tt).follow
+    (λ v xs h. record { follow = no_enters-lawful p sight (in_order xs) (each-in_order IsNoEnter xs h); shows = tt }) (none_opens p) tt).follow

@@ -218,8 +218,7 @@ module _ (p : Image) (s : Levels) (a : Who) where
 
   blocks_later : (name : Who) (waiting : Waiting) → Keeps (Held Whole) (block TheBlock name waiting)
   unfolding block says_block
-  blocks_later name waiting =
-      then-leads (changes (edit_task name (with_state (Blocked waiting)))) _
+  blocks_later name waiting = then-leads (changes (edit_task name (with_state (Blocked waiting)))) _
       (changes-leads (edit_task name (with_state (Blocked waiting)))
       (λ w said h. holds-edit Whole (Blocking name) name (with_state (Blocked waiting)) w said (λ t. refl) (sound-edit name (with_state (Blocked waiting)) w (λ t. refl) (λ t k. k) (holds-sound Whole w said h))
       (block_turns name waiting) h))
@@ -304,8 +303,7 @@ module _ (p : Image) (s : Levels) (a : Who) where
       (keeps_turns p s a (Sized p s a drawn (Choosing p s a)) a (with_state Runnable) (λ d t l is h. (record { late = h.0.late; low = h.0.low; shown = inl (inl refl); fresh = h.0.fresh }, h.1)))
 
   runs_on_inside : (drawn : ℕ) → Keeps (Held (Sized p s a drawn Whole)) (changes (edit_task a (with_state Runnable)))
-  runs_on_inside drawn =
-      edits-holds (Sized p s a drawn Whole) (Sized p s a drawn Whole) a (with_state Runnable) (λ t. refl) (λ t k. k)
+  runs_on_inside drawn = edits-holds (Sized p s a drawn Whole) (Sized p s a drawn Whole) a (with_state Runnable) (λ t. refl) (λ t k. k)
       (keeps_turns p s a (Sized p s a drawn Whole) a (with_state Runnable)
       (λ d t l is h. ((record { late = h.0.0.late; low = h.0.0.low; shown = inl refl; fresh = h.0.0.fresh }, λ same. ((h.0.1 same).0, inl refl)), h.1)))
 
@@ -463,8 +461,7 @@ module _ (p : Image) (s : Levels) (a : Who) where
   }
 
   made_each : (v : World) (said : List Said) → Holds Whole v said → EachTask (λ t. is_made t ≡ true → IsUnmade p s a v t.who) v.tasks
-  made_each v said h =
-      each-on (IsThere v) (λ t. is_made t ≡ true → IsUnmade p s a v t.who) v.tasks
+  made_each v said h = each-on (IsThere v) (λ t. is_made t ≡ true → IsUnmade p s a v t.who) v.tasks
       (λ t there made. unmade_as v t there made (λ same. let k = (holds-of Whole v said t.who h).1 same in either_state (core (task_of v t.who)) (last_put t.who said) k.1)) (all_there v (holds-sound Whole v said h))
 
   asleep_each : (P : Point) (w : World) (said : List Said) → Holds P w said → EachTask (λ t. is_blocked t.state ≡ true → Sleeping_in w t.who) w.tasks
@@ -512,8 +509,7 @@ module _ (p : Image) (s : Levels) (a : Who) where
   less t = record t { inherited = without (λ i. same_cause inherited_by.Activation i.cause) t.inherited }
 
   ended_loses : (v : World) (name : Who) (w : World) (said : List Said) → Holds (Ending p s a v name) w said → Holds (Ending p s a v name) (lose name inherited_by.Activation w) said
-  ended_loses v name w said h =
-      holds-edit (Ending p s a v name) (Ending p s a v name) name less w said (λ t. refl)
+  ended_loses v name w said h = holds-edit (Ending p s a v name) (Ending p s a v name) name less w said (λ t. refl)
       (sound-edit name less w (λ t. refl) (λ t k. unactivated_without (λ i. same_cause inherited_by.Activation i.cause) t.inherited k) (holds-sound (Ending p s a v name) w said h))
       (keeps_turns p s a (Ending p s a v name) name less (λ d t l is k. (
         (later-kept p s a d name t (core (less t)) l is refl (at_most-out (place p s a name l) (active_in p (core (less t))) (k.1 (same_self name))) k.0.0, k.0.1, k.0.2),

@@ -18,9 +18,21 @@ pub(super) struct Row {
 /// A line is put, and the main procedure ends.
 pub(super) const PUTS: Row = Row {
     words: &["run", "source"],
-    source: b"with Ada.Text_IO; use Ada.Text_IO;\nprocedure Main is\nbegin\n   null;\n   Put_Line (\"hi\");\nend Main;\n",
+    source: b"with Ada.Text_IO; use Ada.Text_IO;
+procedure Main is
+begin
+   null;
+   Put_Line (\"hi\");
+end Main;
+",
     script: b"",
-    trace: b"0 t0 new main 15\n0 t0 ready 15 tail\n0 t0 run\n7 t0 put hi\n9 t0 done\n9 end completed\n",
+    trace: b"0 t0 new main 15
+0 t0 ready 15 tail
+0 t0 run
+7 t0 put hi
+9 t0 done
+9 end completed
+",
     status: 0,
     reads: 3,
 };
@@ -28,9 +40,20 @@ pub(super) const PUTS: Row = Row {
 /// An interrupt comes while the main procedure waits, and the bound ends the run.
 pub(super) const INTERRUPTED: Row = Row {
     words: &["run", "source", "script", "--ticks", "50"],
-    source: b"procedure Main is\nbegin\n   delay 1.0;\nend Main;\n",
+    source: b"procedure Main is
+begin
+   delay 1.0;
+end Main;
+",
     script: b"50 interrupt 3",
-    trace: b"0 t0 new main 15\n0 t0 ready 15 tail\n0 t0 run\n4 t0 block delay\n4 idle\n50 interrupt 3\n50 end bound\n",
+    trace: b"0 t0 new main 15
+0 t0 ready 15 tail
+0 t0 run
+4 t0 block delay
+4 idle
+50 interrupt 3
+50 end bound
+",
     status: 3,
     reads: 6,
 };

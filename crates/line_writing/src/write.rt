@@ -1,6 +1,6 @@
 //! How a line is written.
 ghost use Rattle.std.specs.Prelude.{◌≡◌, ◌+◌, ◌≤◌, ◌∷◌, [], ◌++◌, length};
-ghost use Rattle.std.specs.Prelude.{decimal, ◌<◌, ◌^◌, FitsSigned};
+ghost use Rattle.std.specs.Prelude.{decimal, codes, ◌<◌, ◌^◌, FitsSigned};
 ghost use Rattle.std.specs.Int.{w32, w64};
 ghost use Rattle.std.specs.Fmt.{signed_decimal};
 ghost use Rattle.trace_text.specs.Text.{task_text, object_text, who_text, created_text};
@@ -8,6 +8,7 @@ ghost use Rattle.trace_text.specs.Text.{mode_text, entry_text, finished_text, en
 ghost use Rattle.trace_text.specs.Text.{deadline_words, words_of, spaced, line_text, IsPrintable};
 ghost use Rattle.trace_text.specs.Text.{IsWithin, IsWhoWithin, IsCreatedWithin, IsEntryWithin};
 ghost use Rattle.trace_text.specs.Text.{IsFinishedWithin, IsEndedWithin, IsDeadlineWithin};
+ghost use Rattle.trace_text.specs.Lent.{entry_lent, finished_lent, ended_lent, event_lent};
 ghost use Rattle.ann_base.specs.declared.names.TheConstants.{NAME_BYTES};
 ghost use Rattle.line_writing.specs.declared.buffer.TheConstants.{BUFFER_BYTES};
 ghost use Rattle.trace_text.specs.declared.lines.TheConstants.{LINE_BYTES};
@@ -17,8 +18,8 @@ use crate::buffer::LineBuffer;
 use ann_base::{Moment, ObjectNo, TaskNo};
 use itoa::Buffer;
 use trace_text::{
-    Created, Ended, EntryName, Event, Finished, Mode, Who, leaves_bytes, mode_bytes,
-    queue_end_bytes, waits_bytes,
+    Created, EndedRef, EntryNameRef, EventRef, FinishedRef, Mode, TextRef, Who, leaves_bytes,
+    mode_bytes, queue_end_bytes, waits_bytes,
 };
 
 // The most bytes that its words have, each behind a space: a line without its tick and its line
@@ -27,12 +28,12 @@ const WORDS_BYTES: usize = 1_079;
 
 /// Appends the line of a printable event at a tick: the tick, the words with single spaces between,
 /// a line feed. A line has at most LINE_BYTES bytes, and so many must be free.
-pub fn write_line(now: u64, event: &Event, buffer: &mut LineBuffer)
+pub fn write_line(now: u64, event: &EventRef<'_>, buffer: &mut LineBuffer)
     requires room { length buffer.old + LINE_BYTES ≤ BUFFER_BYTES }
-    requires printable { IsPrintable event.now }
-    ensures line { buffer.new ≡ buffer.old ++ line_text now event.now }
-    ensures short { length (line_text now event.now) ≤ LINE_BYTES }
-    ensures within { IsWithin event.now }
+    requires printable { IsPrintable (event_lent event.now) }
+    ensures line { buffer.new ≡ buffer.old ++ line_text now (event_lent event.now) }
+    ensures short { length (line_text now (event_lent event.now)) ≤ LINE_BYTES }
+    ensures within { IsWithin (event_lent event.now) }
 {
     let mut digits = Buffer::new();
     buffer.append(digits.format(now).as_bytes());
@@ -41,20 +42,20 @@ pub fn write_line(now: u64, event: &Event, buffer: &mut LineBuffer)
 }
 
 // The words of the event, each behind a space.
-fn push_event(event: &Event, buffer: &mut LineBuffer)
+fn push_event(event: &EventRef<'_>, buffer: &mut LineBuffer)
     requires { length buffer.old + WORDS_BYTES ≤ BUFFER_BYTES }
-    ensures words { buffer.new ≡ buffer.old ++ spaced (words_of event.now) }
+    ensures words { buffer.new ≡ buffer.old ++ spaced (words_of (event_lent event.now)) }
     ensures longer { length buffer.new ≤ length buffer.old + WORDS_BYTES }
-    ensures within { IsWithin event.now }
+    ensures within { IsWithin (event_lent event.now) }
 {
     match event {
-        Event::New { what, name, level } => {
+        EventRef::New { what, name, level } => {
             push_created(*what, buffer);
             push_word(b"new", buffer);
             push_word(name.as_bytes(), buffer);
             push_short(*level, buffer);
         }
-        Event::Ready {
+        EventRef::Ready {
             who,
             level,
             end,
@@ -65,22 +66,27 @@ fn push_event(event: &Event, buffer: &mut LineBuffer)
             push_word(queue_end_bytes(*end), buffer);
             push_deadline(*deadline, buffer);
         }
-        Event::Block { who, waits } => push_two(*who, b"block", waits_bytes(*waits), buffer),
-        Event::Run { who } => push_subject(*who, b"run", buffer),
-        Event::Idle => push_word(b"idle", buffer),
-        Event::Base { task, level } => {
+        EventRef::Block { who, waits } => push_two(*who, b"block", waits_bytes(*waits), buffer),
+        EventRef::Run { who } => push_subject(*who, b"run", buffer),
+        EventRef::Idle => push_word(b"idle", buffer),
+        EventRef::Base { task, level } => {
             push_of_task(*task, b"base", buffer);
             push_short(*level, buffer);
         }
-        Event::Deadline { task, deadline } => {
+        EventRef::Deadline { task, deadline } => {
             push_of_task(*task, b"deadline", buffer);
             push_moment(*deadline, buffer);
         }
-        Event::Quantum { task } => push_of_task(*task, b"quantum", buffer),
-        Event::Done { task } => push_of_task(*task, b"done", buffer),
-        Event::Raise { who, exception } => push_two(*who, b"raise", exception.as_bytes(), buffer),
-        Event::Put { who, text } => push_two(*who, b"put", text.as_bytes(), buffer),
-        Event::Call {
+        EventRef::Quantum { task } => push_of_task(*task, b"quantum", buffer),
+        EventRef::Done { task } => push_of_task(*task, b"done", buffer),
+        EventRef::Raise { who, exception } => push_two(
+            *who,
+            b"raise",
+            exception.as_bytes(),
+            buffer,
+        ),
+        EventRef::Put { who, text } => push_put(*who, text, buffer),
+        EventRef::Call {
             task,
             call,
             entry,
@@ -90,29 +96,31 @@ fn push_event(event: &Event, buffer: &mut LineBuffer)
             push_entry(entry, buffer);
             push_short(*priority, buffer);
         }
-        Event::Start { who, call } => push_counted(*who, b"start", call.0, buffer),
-        Event::Finish { who, call, how } => {
+        EventRef::Start { who, call } => push_counted(*who, b"start", call.0, buffer),
+        EventRef::Finish { who, call, how } => {
             push_counted(*who, b"finish", call.0, buffer);
             push_word(finished_word(how), buffer);
         }
-        Event::Cancel { task, call } => push_call(*task, b"cancel", call.0, buffer),
-        Event::Gone { task, call } => push_call(*task, b"gone", call.0, buffer),
-        Event::Enter { who, object, mode } => push_action(*who, b"enter", *object, *mode, buffer),
-        Event::Exit { who, object } => {
+        EventRef::Cancel { task, call } => push_call(*task, b"cancel", call.0, buffer),
+        EventRef::Gone { task, call } => push_call(*task, b"gone", call.0, buffer),
+        EventRef::Enter { who, object, mode } => push_action(
+            *who, b"enter", *object, *mode, buffer,
+        ),
+        EventRef::Exit { who, object } => {
             push_subject(*who, b"exit", buffer);
             push_object(*object, buffer);
         }
-        Event::Held { who, object, mode } => push_action(*who, b"held", *object, *mode, buffer),
-        Event::Abort { task, victim } => {
+        EventRef::Held { who, object, mode } => push_action(*who, b"held", *object, *mode, buffer),
+        EventRef::Abort { task, victim } => {
             push_of_task(*task, b"abort", buffer);
             push_task(*victim, buffer);
         }
-        Event::Trigger { task } => push_of_task(*task, b"trigger", buffer),
-        Event::Leave { who, region, how } => {
+        EventRef::Trigger { task } => push_of_task(*task, b"trigger", buffer),
+        EventRef::Leave { who, region, how } => {
             push_counted(*who, b"leave", region.0, buffer);
             push_word(leaves_bytes(*how), buffer);
         }
-        Event::Init {
+        EventRef::Init {
             who,
             object,
             region,
@@ -122,10 +130,10 @@ fn push_event(event: &Event, buffer: &mut LineBuffer)
             push_number(region.0, buffer);
             push_word(name.as_bytes(), buffer);
         }
-        Event::Final { who, object } => push_counted(*who, b"final", *object, buffer),
-        Event::Left { who, region } => push_counted(*who, b"left", region.0, buffer),
-        Event::Replace { who, object } => push_counted(*who, b"replace", *object, buffer),
-        Event::Release {
+        EventRef::Final { who, object } => push_counted(*who, b"final", *object, buffer),
+        EventRef::Left { who, region } => push_counted(*who, b"left", region.0, buffer),
+        EventRef::Replace { who, object } => push_counted(*who, b"replace", *object, buffer),
+        EventRef::Release {
             release,
             object,
             handler,
@@ -135,17 +143,17 @@ fn push_event(event: &Event, buffer: &mut LineBuffer)
             push_object(*object, buffer);
             push_part(handler.as_bytes(), buffer);
         }
-        Event::Serve { release } => push_counted(Who::Agent, b"serve", *release, buffer),
-        Event::Served { release } => push_counted(Who::Agent, b"served", *release, buffer),
-        Event::Interrupt { number } => push_of_line(b"interrupt", *number, buffer),
-        Event::Port { number, value } => {
+        EventRef::Serve { release } => push_counted(Who::Agent, b"serve", *release, buffer),
+        EventRef::Served { release } => push_counted(Who::Agent, b"served", *release, buffer),
+        EventRef::Interrupt { number } => push_of_line(b"interrupt", *number, buffer),
+        EventRef::Port { number, value } => {
             push_of_line(b"port", *number, buffer);
             push_value(*value, buffer);
         }
-        Event::Mask { number } => push_of_line(b"mask", *number, buffer),
-        Event::Unmask { number } => push_of_line(b"unmask", *number, buffer),
-        Event::Masked { number } => push_of_line(b"masked", *number, buffer),
-        Event::End { why } => {
+        EventRef::Mask { number } => push_of_line(b"mask", *number, buffer),
+        EventRef::Unmask { number } => push_of_line(b"unmask", *number, buffer),
+        EventRef::Masked { number } => push_of_line(b"masked", *number, buffer),
+        EventRef::End { why } => {
             push_word(b"end", buffer);
             push_ended(why, buffer);
         }
@@ -173,6 +181,18 @@ fn push_two(who: Who, word: &[u8], last: &[u8], buffer: &mut LineBuffer)
 {
     push_subject(who, word, buffer);
     push_word(last, buffer);
+}
+
+// Who puts, and what.
+fn push_put(who: Who, text: &TextRef<'_>, buffer: &mut LineBuffer)
+    requires { length buffer.old + 1017 ≤ BUFFER_BYTES }
+    ensures words { buffer.new ≡ buffer.old ++ spaced (who_text who ∷ codes "put" ∷ text.now ∷ []) }
+    ensures longer { length buffer.new ≤ length buffer.old + 1017 }
+    ensures within { IsWhoWithin who × (length text.now ≤ NAME_BYTES) }
+{
+    let (front, rest) = text.parts();
+    push_two(who, b"put", front, buffer);
+    buffer.append(rest);
 }
 
 // Who, what happens, and the number of a call, a region, an object or a release.
@@ -364,49 +384,49 @@ fn push_part(name: &[u8], buffer: &mut LineBuffer)
     buffer.append(name);
 }
 
-fn push_entry(entry: &EntryName, buffer: &mut LineBuffer)
+fn push_entry(entry: &EntryNameRef<'_>, buffer: &mut LineBuffer)
     requires { length buffer.old + 1013 ≤ BUFFER_BYTES }
-    ensures entry { buffer.new ≡ buffer.old ++ 32 ∷ entry_text entry.now }
+    ensures entry { buffer.new ≡ buffer.old ++ 32 ∷ entry_text (entry_lent entry.now) }
     ensures longer { length buffer.new ≤ length buffer.old + 1013 }
-    ensures within { IsEntryWithin entry.now }
+    ensures within { IsEntryWithin (entry_lent entry.now) }
 {
     match entry {
-        EntryName::OfTask(task, name) => {
+        EntryNameRef::OfTask(task, name) => {
             push_task(*task, buffer);
             push_part(name.as_bytes(), buffer);
         }
-        EntryName::OfObject(object, name) => {
+        EntryNameRef::OfObject(object, name) => {
             push_object(*object, buffer);
             push_part(name.as_bytes(), buffer);
         }
     }
 }
 
-fn push_ended(why: &Ended, buffer: &mut LineBuffer)
+fn push_ended(why: &EndedRef<'_>, buffer: &mut LineBuffer)
     requires { length buffer.old + 1011 ≤ BUFFER_BYTES }
-    ensures ended { buffer.new ≡ buffer.old ++ spaced (ended_words why.now) }
+    ensures ended { buffer.new ≡ buffer.old ++ spaced (ended_words (ended_lent why.now)) }
     ensures longer { length buffer.new ≤ length buffer.old + 1011 }
-    ensures within { IsEndedWithin why.now }
+    ensures within { IsEndedWithin (ended_lent why.now) }
 {
     match why {
-        Ended::Completed => push_word(b"completed", buffer),
-        Ended::Exception(name) => {
+        EndedRef::Completed => push_word(b"completed", buffer),
+        EndedRef::Exception(name) => {
             push_word(b"exception", buffer);
             push_word(name.as_bytes(), buffer);
         }
-        Ended::Stuck => push_word(b"stuck", buffer),
-        Ended::Bound => push_word(b"bound", buffer),
+        EndedRef::Stuck => push_word(b"stuck", buffer),
+        EndedRef::Bound => push_word(b"bound", buffer),
     }
 }
 
-fn finished_word(how: &Finished) -> &[u8]
-    ensures word { result.now ≡ finished_text how.now }
+fn finished_word<'a>(how: &FinishedRef<'a>) -> &'a [u8]
+    ensures word { result.now ≡ finished_text (finished_lent how.now) }
     ensures short { length result.now ≤ NAME_BYTES }
-    ensures within { IsFinishedWithin how.now }
+    ensures within { IsFinishedWithin (finished_lent how.now) }
 {
     match how {
-        Finished::Ok => b"ok",
-        Finished::Raised(name) => name.as_bytes(),
-        Finished::Requeue => b"requeue",
+        FinishedRef::Ok => b"ok",
+        FinishedRef::Raised(name) => name.as_bytes(),
+        FinishedRef::Requeue => b"requeue",
     }
 }

@@ -1,5 +1,5 @@
 -- The first of the appointments in order is the earliest.
-use Rattle.std.proofs.Common.{◌≡◌, ℕ, suc, ◌<◌, min, length, slice_index_or, ℤ, pos, negsuc, ◌≤ℤ◌, List, [], ◌∷◌, Option, Some, None, refl, ap, sym, ◌∙◌, arith}
+use Rattle.std.proofs.Common.{◌≡◌, ℕ, suc, ◌<◌, length, slice_index_or, ℤ, pos, negsuc, ◌≤ℤ◌, List, [], ◌∷◌, Some, None, refl, ap, ◌∙◌, arith}
 use Rattle.std.proofs.lemmas.Int.{ints}
 use Rattle.world_tables.specs.Lists.{first_of}
 use Rattle.profile_machine.specs.declared.world.appointments.Appointment.{Appointment}

@@ -7,7 +7,11 @@ use Rattle.profile_image.specs.declared.script_items.Item.{Item}
 use Rattle.std.specs.Option.{IsSome}
 use Rattle.trace_text.specs.declared.events.Event.{Event}
 use Rattle.trace_text.specs.declared.events.Ended.{Ended}
-use Rattle.trace_text.specs.Text.{text_of}
+use Rattle.trace_text.specs.Text.{text_of, ArePrintable, IsPrintableLine}
+use Rattle.world_tables.specs.Lists.{first_of}
+use Rattle.machine_dispatching.specs.Settling.{written}
+use Rattle.machine_ticks.specs.declared.tocks.TickLine.{TickLine}
+use Rattle.machine_ticks.specs.Ticks.{tick_event, tick_events}
 use Rattle.ann_base.specs.declared.faults.NoMemory.{NoMemory}
 use Rattle.machine_ticks.specs.declared.stops.Stopped.{Stopped}
 use Rattle.machine_ticks.specs.Stops.{why_ended}
@@ -17,8 +21,8 @@ use Rattle.machine_kernel.specs.declared.kernel.Next.{Next}
 use Rattle.machine_kernel.specs.declared.kernel.Next.TheVariants as did
 use Rattle.machine_kernel.specs.Reached.{is_in_time}
 use Rattle.machine_kernel.specs.Kernel.{shown, future, stop_to_come, left_to_do}
-use Rattle.machine_kernel.specs.Future.{Shown, future_of, stop_of, left_of, advanced, written_of, first_line, opened}
-use Rattle.profile_machine.specs.Run.{lines_of_run, stop_of_run}
+use Rattle.machine_kernel.specs.Future.{Shown, end_lines, future_of, stop_of, left_of, advanced, written_of, first_line, opened}
+use Rattle.profile_machine.specs.Run.{lines_of_run, stop_of_run, at_tick}
 use Rattle.machine_kernel.specs.Next.{IfGoing, IfEnded, IsOver}
 use Rattle.machine_kernel.proofs.BusyLemmas.{QuietStretches}
 use Rattle.machine_kernel.proofs.FutureLemmas.{Moves, advanced-future, advanced-stop, advanced-left, stopped-future, stopped-stop, opened-future, opened-stop}
@@ -123,3 +127,19 @@ pub open-stop : (p : Image) (script : List (ℤ × Item)) (bound : ℕ) → Runs
 unfolding stop_to_come
 open-stop p script bound begins (Ok k) e = ap stop_of e ∙ opened-stop p script bound (begins p script)
 open-stop p script bound begins (Err fault) e = tt
+
+-- ---- the first line of a tock
+
+first-of-ticks : (now : ℕ) (ts : List TickLine) (line : TickLine) (event : Event) (rest : List Event) → Some line ≡ first_of ts → event ≡ tick_event line
+    → IsPrintableLine now event → ArePrintable (first_line (at_tick now (tick_events ts ++ rest)))
+first-of-ticks now [] line event rest first is p = cc
+first-of-ticks now (x ∷ xs) line event rest first is p =
+    let same : line ≡ x = cc in
+    (subst (IsPrintableLine now) (is ∙ ap tick_event same) p, tt)
+
+pub printable-tick : (k : Kernel) (line : TickLine) (event : Event) → k.said ≡ [] → Some line ≡ first_of k.ticks → event ≡ tick_event line
+    → IsPrintableLine k.told_at event → ArePrintable (first_line (shown k).owed)
+printable-tick k line event said first is p =
+    let rest = end_lines (why_ended k.program k.last) in
+    subst (λ ls. ArePrintable (first_line (at_tick k.told_at (written k.program ls ++ (tick_events k.ticks ++ rest))))) (sym said)
+    (first-of-ticks k.told_at k.ticks line event rest first is p)

@@ -1,5 +1,5 @@
 -- What a kernel shows.
-use Rattle.std.specs.Prelude.{◌≡◌, ℕ, List, [], ◌∷◌, ◌++◌, Option, Some, None}
+use Rattle.std.specs.Prelude.{◌≡◌, ℕ, List, [], ◌++◌, None}
 use Rattle.trace_text.specs.declared.events.Event.{Event}
 use Rattle.trace_text.specs.declared.events.Ended.{Ended}
 use Rattle.profile_machine.specs.Run.{at_tick}
@@ -27,13 +27,6 @@ shown k = record {
 -- a kernel whose owed lines are all told
 abbrev pub OwesNothing : Kernel → Type 0
 OwesNothing k = (k.said ≡ []) × (k.ticks ≡ []) × (k.last ≡ None)
-
--- what was taken of the owed lines: the first of them, or nothing where none was left
-abbrev pub Takes : Option Event → Kernel → Kernel → Type 0
-Takes None old new = OwesNothing old × (new ≡ old)
-Takes (Some event) old new =
-    ((shown old).owed ≡ (new.told_at, event) ∷ (shown new).owed)
-    × (shown new ≡ record (shown old) { owed = (shown new).owed })
 
 -- the lines that are still to come, the owed ones first
 unfoldable pub future : Kernel → List (ℕ × Event)

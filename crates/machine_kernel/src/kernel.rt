@@ -17,11 +17,13 @@ use machine_laws::runs::{busy_stretches_say_nothing, idle_stretches_say_nothing}
 use machine_laws::time::{instants_take_no_time, runs_begin_at_0, tocks_take_one_tick};
 use machine_program::Program;
 use machine_run::instant;
-use machine_ticks::{Stopped, TickLine, ended_by, event_of, opening, stop, tick_event, tock};
+use machine_ticks::{
+    Stopped, TickLine, ended_by, event_of, opening, stop, tick_event, tock, why_lent,
+};
 use profile_image::{Image, Item};
 use profile_machine::world::{Line, World};
 use std::alloc::Global;
-use trace_text::{Ended, Event};
+use trace_text::{Ended, EventRef};
 use world_tables::List;
 
 /// Why a run ends.
@@ -75,10 +77,10 @@ impl Drop for Kernel {
 }
 
 impl Kernel {
-    ghost use Rattle.std.specs.Prelude.{IfOk, IfSome, OnErr};
-    ghost use Rattle.trace_text.specs.Text.{ArePrintable, IsPrintable, text_of};
+    ghost use Rattle.std.specs.Prelude.{IfOk, OnErr};
+    ghost use Rattle.trace_text.specs.Text.{ArePrintable, text_of};
     ghost use Rattle.machine_kernel.specs.Kernel.{shown, future, stop_to_come};
-    ghost use Rattle.machine_kernel.specs.Kernel.{left_to_do, OwesNothing, Takes};
+    ghost use Rattle.machine_kernel.specs.Kernel.{left_to_do, OwesNothing};
     ghost use Rattle.std.specs.Option.{IsSome};
     ghost use Rattle.machine_kernel.specs.Next.{IfGoing, IfEnded, IsOver};
     ghost use Rattle.machine_kernel.specs.Future.{advanced, opened, goes_by};
@@ -154,7 +156,7 @@ impl Kernel {
         }
     }
 
-    /// One step: an owed line is told, or the run goes on. A line is made in a call of its own,
+    /// One step: an owed line is told, or the run goes on. A line is told in a call of its own,
     /// since a function pays at its entry for the room of what it keeps, and most steps tell no
     /// line.
     fn step(&mut self, out: &mut LineBuffer) -> Result<Next, NoMemory>
@@ -181,7 +183,8 @@ impl Kernel {
         self.said.is_empty() && self.ticks.is_empty() && self.last.is_none()
     }
 
-    /// The same where a line may be owed.
+    /// The same where a line may be owed: first those of an instant. The line lends its names, so
+    /// it is written before it is taken off its list.
     fn tell(&mut self, out: &mut LineBuffer) -> Result<Next, NoMemory>
         requires { length out.old + LINE_BYTES ≤ BUFFER_BYTES }
         ensures step { OnOk result (shown self.new ≡ advanced (shown self.old)) }
@@ -192,60 +195,61 @@ impl Kernel {
             (IfGoing ((shown self.old).owed ≡ [] → (shown self.old).stop ≡ None)) }
         ensures ended { IfOk result (IfEnded (IsOver (shown self.old) (shown self.new))) }
     {
-        match self.take_owed()? {
-            Some(event) => {
-                write_line(self.told_at, &event, out);
-                Ok(Next::Going)
-            }
-            None => self.go_on(),
-        }
-    }
-
-    /// Takes the first line that is owed, if there is one: first those of an instant.
-    fn take_owed(&mut self) -> Result<Option<Event>, NoMemory>
-        ensures taken { IfOk result (λ event. Takes event self.old self.new) }
-        ensures printable { IfOk result (λ event. IfSome event IsPrintable) }
-    {
         match self.said.front() {
             Some(line) => {
-                let event = event_of(self.alloc, &self.program, line)?;
+                let event = event_of(&self.program, line)?;
+                write_line(self.told_at, &event, out);
                 self.said.pop_front();
-                Ok(Some(event))
+                Ok(Next::Going)
             }
-            None => self.take_of_tick(),
+            None => self.tell_of_tick(out),
         }
     }
 
-    /// Takes the first line of a tock that is owed, or else the last line of the run.
-    fn take_of_tick(&mut self) -> Result<Option<Event>, NoMemory>
-        requires { self.old.said ≡ [] }
-        ensures taken { IfOk result (λ event. Takes event self.old self.new) }
-        ensures printable { IfOk result (λ event. IfSome event IsPrintable) }
+    /// Tells the first line of a tock that is owed, or else the last line of the run.
+    fn tell_of_tick(&mut self, out: &mut LineBuffer) -> Result<Next, NoMemory>
+        requires room { length out.old + LINE_BYTES ≤ BUFFER_BYTES }
+        requires said { self.old.said ≡ [] }
+        ensures step { OnOk result (shown self.new ≡ advanced (shown self.old)) }
+        ensures told { OnOk result (out.new ≡ out.old ++ written_of (shown self.old).owed) }
+        ensures printable { OnOk result (ArePrintable (first_line (shown self.old).owed)) }
+        ensures err { OnErr result (out.new ≡ out.old) }
+        ensures going { IfOk result
+            (IfGoing ((shown self.old).owed ≡ [] → (shown self.old).stop ≡ None)) }
+        ensures ended { IfOk result (IfEnded (IsOver (shown self.old) (shown self.new))) }
     {
+        let told_at = self.told_at;
         match self.ticks.front() {
             Some(line) => {
-                let event = tick_event(*line);
+                write_line(told_at, &tick_event(*line), out);
                 self.ticks.pop_front();
-                Ok(Some(event))
+                Ok(Next::Going)
             }
-            None => self.take_last(),
+            None => self.tell_last(out),
         }
     }
 
-    /// Takes the last line of the run, if it is owed.
-    fn take_last(&mut self) -> Result<Option<Event>, NoMemory>
+    /// Tells the last line of the run, if it is owed.
+    fn tell_last(&mut self, out: &mut LineBuffer) -> Result<Next, NoMemory>
+        requires room { length out.old + LINE_BYTES ≤ BUFFER_BYTES }
         requires said { self.old.said ≡ [] }
         requires ticks { self.old.ticks ≡ [] }
-        ensures taken { IfOk result (λ event. Takes event self.old self.new) }
-        ensures printable { IfOk result (λ event. IfSome event IsPrintable) }
+        ensures step { OnOk result (shown self.new ≡ advanced (shown self.old)) }
+        ensures told { OnOk result (out.new ≡ out.old ++ written_of (shown self.old).owed) }
+        ensures printable { OnOk result (ArePrintable (first_line (shown self.old).owed)) }
+        ensures err { OnErr result (out.new ≡ out.old) }
+        ensures going { IfOk result
+            (IfGoing ((shown self.old).owed ≡ [] → (shown self.old).stop ≡ None)) }
+        ensures ended { IfOk result (IfEnded (IsOver (shown self.old) (shown self.new))) }
     {
         match self.last {
             Some(stopped) => {
-                let why = ended_by(&self.program, stopped)?;
+                let why = why_lent(&self.program, stopped)?;
+                write_line(self.told_at, &EventRef::End { why }, out);
                 self.last = None;
-                Ok(Some(Event::End { why }))
+                Ok(Next::Going)
             }
-            None => Ok(None),
+            None => self.go_on(),
         }
     }
 

@@ -1,8 +1,7 @@
 -- One tick of a task that belongs to no group, where no timer is set, is one edit.
 use Rattle.std.proofs.Common.{◌≡◌, ℕ, ◌-◌, Bool, true, false, cond, is_none, List, [], ◌∷◌, Option, Some}
-use Rattle.std.proofs.Common.{None, length, ◌==◌, find, filter, unwrap_or, refl, sym, ap, ◌∙◌, arith}
+use Rattle.std.proofs.Common.{None, find, filter, unwrap_or, refl, sym, ap, ◌∙◌}
 use Rattle.std.proofs.Common.{Result, Ok, Err, OnOk}
-use Rattle.std.proofs.lemmas.Grind.{common_steps}
 use Rattle.ann_base.specs.Lists.{is_empty}
 use Rattle.ann_base.specs.declared.identities.TaskNo.{TaskNo}
 use Rattle.trace_text.specs.declared.events.Who.{Who}

@@ -1,8 +1,10 @@
 //! From the lines of a run to the lines of a trace: numbers become names.
 //!
-//! A line has room for names and texts of at most 1,000 bytes. Those of a legal program are not
-//! longer, and are names and texts as a trace has them; of any other program the line is answered
-//! as want of memory.
+//! The names are lent by the program, the texts by the lines of the run: nothing is copied.
+//!
+//! A line has names and texts of at most 1,000 bytes. Those of a legal program are not longer, and
+//! are names and texts as a trace has them; of any other program the line is answered as want of
+//! memory.
 ghost use Rattle.std.specs.Prelude.{◌≡◌, IfOk};
 ghost use Rattle.trace_text.specs.Text.{IsName, IsExceptionName, IsPutText, IsEntryPrintable};
 ghost use Rattle.trace_text.specs.Text.{IsFinishedPrintable, IsEndedPrintable, IsPrintable};
@@ -12,32 +14,34 @@ ghost use Rattle.trace_text.specs.declared.events.Event.TheVariants as written;
 ghost use Rattle.profile_machine.specs.declared.world.lines.Line.TheVariants as line;
 ghost use Rattle.machine_ticks.specs.Stops.{ended_by};
 ghost use Rattle.machine_ticks.specs.Ticks.{tick_event};
+ghost use Rattle.trace_text.specs.Lent.{entry_lent, finished_lent, ended_lent, event_lent};
 
 use crate::{Stopped, TickLine};
 use ann_base::{CallNo, Level, Name, NoMemory, Raised, RegionNo, TaskNo};
 use machine_program::{Program, declaration_of, entry_of, main_procedure, subprogram_of};
 use profile_image::{DeclNo, EntryNo};
 use profile_machine::world::{HandlerOf, Line, MeetingEnd, Owner};
-use std::alloc::Global;
-use trace_fields::{exception_of, name_of, text_of};
-use trace_text::{Created, Ended, EntryName, Event, Finished, Who};
+use trace_fields::{exception_lent, name_lent, text_lent};
+use trace_text::{
+    Created, Ended, EndedRef, EntryNameRef, EventRef, FinishedRef, NameRef, TextRef, Who,
+};
 use world_tables::List;
 
-fn name(bytes: &[u8]) -> Result<Name, NoMemory>
+fn name(bytes: &[u8]) -> Result<NameRef<'_>, NoMemory>
     ensures text { IfOk result (λ name. name ≡ bytes.now) }
     ensures name { IfOk result IsName }
 {
-    name_of(bytes).ok_or(NoMemory)
+    name_lent(bytes).ok_or(NoMemory)
 }
 
-fn exception(bytes: &[u8]) -> Result<Name, NoMemory>
+fn exception(bytes: &[u8]) -> Result<NameRef<'_>, NoMemory>
     ensures text { IfOk result (λ name. name ≡ bytes.now) }
     ensures name { IfOk result IsExceptionName }
 {
-    exception_of(bytes).ok_or(NoMemory)
+    exception_lent(bytes).ok_or(NoMemory)
 }
 
-fn exception_name(p: &Program, raised: Raised) -> Result<Name, NoMemory>
+fn exception_name(p: &Program, raised: Raised) -> Result<NameRef<'_>, NoMemory>
     ensures text { IfOk result (λ name. name ≡ exception_name p.now raised) }
     ensures name { IfOk result IsExceptionName }
 {
@@ -53,25 +57,15 @@ fn exception_name(p: &Program, raised: Raised) -> Result<Name, NoMemory>
     }
 }
 
-fn copied(alloc: Global, text: &List<u8>) -> Result<Vec<u8>, NoMemory>
-    ensures { IfOk result (λ copy. copy.items ≡ text.now) }
-{
-    let mut copy = Vec::new(alloc);
-    for byte in text.iter() {
-        copy.push(*byte)?;
-    }
-    Ok(copy)
-}
-
-fn put_text(alloc: Global, text: &List<u8>) -> Result<Name, NoMemory>
+fn put_text(text: &List<u8>) -> Result<TextRef<'_>, NoMemory>
     ensures text { IfOk result (λ put. put ≡ text.now) }
     ensures put { IfOk result IsPutText }
 {
-    let bytes = copied(alloc, text)?;
-    text_of(bytes.as_slice()).ok_or(NoMemory)
+    let (front, rest) = text.as_slices();
+    text_lent(front, rest).ok_or(NoMemory)
 }
 
-fn created_name(p: &Program, declared: Option<DeclNo>) -> Result<Name, NoMemory>
+fn created_name(p: &Program, declared: Option<DeclNo>) -> Result<NameRef<'_>, NoMemory>
     ensures text { IfOk result (λ name. name ≡ created_name p.now declared) }
     ensures name { IfOk result IsName }
 {
@@ -81,41 +75,56 @@ fn created_name(p: &Program, declared: Option<DeclNo>) -> Result<Name, NoMemory>
     }
 }
 
-fn name_of_entry(p: &Program, owner: Owner, e: EntryNo) -> Result<EntryName, NoMemory>
-    ensures text { IfOk result (λ name. name ≡ name_of_entry p.now owner e) }
-    ensures printable { IfOk result IsEntryPrintable }
+fn name_of_entry(p: &Program, owner: Owner, e: EntryNo) -> Result<EntryNameRef<'_>, NoMemory>
+    ensures text { IfOk result (λ name. entry_lent name ≡ name_of_entry p.now owner e) }
+    ensures printable { IfOk result (λ name. IsEntryPrintable (entry_lent name)) }
 {
     let name = name(entry_of(p, e).name.as_slice())?;
     match owner {
-        Owner::Task(t) => Ok(EntryName::OfTask(t, name)),
-        Owner::Object(o) => Ok(EntryName::OfObject(o, name)),
+        Owner::Task(t) => Ok(EntryNameRef::OfTask(t, name)),
+        Owner::Object(o) => Ok(EntryNameRef::OfObject(o, name)),
     }
 }
 
-fn finished_how(p: &Program, how: MeetingEnd) -> Result<Finished, NoMemory>
-    ensures text { IfOk result (λ finished. finished ≡ finished_how p.now how) }
-    ensures printable { IfOk result IsFinishedPrintable }
+fn finished_how(p: &Program, how: MeetingEnd) -> Result<FinishedRef<'_>, NoMemory>
+    ensures text { IfOk result (λ finished. finished_lent finished ≡ finished_how p.now how) }
+    ensures printable { IfOk result (λ how. IsFinishedPrintable (finished_lent how)) }
 {
     match how {
-        MeetingEnd::Ok => Ok(Finished::Ok),
-        MeetingEnd::Raised(raised) => Ok(Finished::Raised(exception_name(p, raised)?)),
-        MeetingEnd::Requeue => Ok(Finished::Requeue),
+        MeetingEnd::Ok => Ok(FinishedRef::Ok),
+        MeetingEnd::Raised(raised) => Ok(FinishedRef::Raised(exception_name(p, raised)?)),
+        MeetingEnd::Requeue => Ok(FinishedRef::Requeue),
     }
 }
 
 /// What a line of a tock says.
-pub fn tick_event(line: TickLine) -> Event
-    ensures event { result ≡ tick_event line }
-    ensures printable { IsPrintable result }
+pub fn tick_event(line: TickLine) -> EventRef<'static>
+    ensures event { event_lent result ≡ tick_event line }
+    ensures printable { IsPrintable (event_lent result) }
 {
     match line {
-        TickLine::Run(who) => Event::Run { who },
-        TickLine::Idle => Event::Idle,
-        TickLine::Serve(release) => Event::Serve { release },
+        TickLine::Run(who) => EventRef::Run { who },
+        TickLine::Idle => EventRef::Idle,
+        TickLine::Serve(release) => EventRef::Serve { release },
     }
 }
 
-/// Why a run ends, with the name of the exception.
+/// Why a run ends, with the name of the exception, which the program lends.
+///
+/// Errors: the exception has no name that a line can have.
+pub fn why_lent(p: &Program, stopped: Stopped) -> Result<EndedRef<'_>, NoMemory>
+    ensures why { IfOk result (λ why. ended_lent why ≡ ended_by p.now stopped) }
+    ensures printable { IfOk result (λ why. IsEndedPrintable (ended_lent why)) }
+{
+    match stopped {
+        Stopped::Completed => Ok(EndedRef::Completed),
+        Stopped::Exception(raised) => Ok(EndedRef::Exception(exception_name(p, raised)?)),
+        Stopped::Stuck => Ok(EndedRef::Stuck),
+        Stopped::Bound => Ok(EndedRef::Bound),
+    }
+}
+
+/// The same, with a name of its own.
 ///
 /// Errors: the exception has no name that a line can have.
 pub fn ended_by(p: &Program, stopped: Stopped) -> Result<Ended, NoMemory>
@@ -124,7 +133,10 @@ pub fn ended_by(p: &Program, stopped: Stopped) -> Result<Ended, NoMemory>
 {
     match stopped {
         Stopped::Completed => Ok(Ended::Completed),
-        Stopped::Exception(raised) => Ok(Ended::Exception(exception_name(p, raised)?)),
+        Stopped::Exception(raised) => {
+            let name = exception_name(p, raised)?;
+            Ok(Ended::Exception(Name::from_bytes(name.as_bytes())))
+        }
         Stopped::Stuck => Ok(Ended::Stuck),
         Stopped::Bound => Ok(Ended::Bound),
     }
@@ -135,28 +147,30 @@ fn created(
     what: Created,
     declared: Option<DeclNo>,
     level: Level,
-) -> Result<Event, NoMemory>
-    ensures event { IfOk result (λ event. event ≡ event_of p.now (line.New what declared level)) }
-    ensures printable { IfOk result IsPrintable }
+) -> Result<EventRef<'_>, NoMemory>
+    ensures event { IfOk result
+        (λ event. event_lent event ≡ event_of p.now (line.New what declared level)) }
+    ensures printable { IfOk result (λ event. IsPrintable (event_lent event)) }
 {
     let name = created_name(p, declared)?;
-    Ok(Event::New { what, name, level })
+    Ok(EventRef::New { what, name, level })
 }
 
-fn raised(p: &Program, who: Who, exception: Raised) -> Result<Event, NoMemory>
-    ensures event { IfOk result (λ event. event ≡ event_of p.now (line.Raise who exception)) }
-    ensures printable { IfOk result IsPrintable }
+fn raised(p: &Program, who: Who, exception: Raised) -> Result<EventRef<'_>, NoMemory>
+    ensures event { IfOk result
+        (λ event. event_lent event ≡ event_of p.now (line.Raise who exception)) }
+    ensures printable { IfOk result (λ event. IsPrintable (event_lent event)) }
 {
     let exception = exception_name(p, exception)?;
-    Ok(Event::Raise { who, exception })
+    Ok(EventRef::Raise { who, exception })
 }
 
-fn put(alloc: Global, who: Who, text: &List<u8>) -> Result<Event, NoMemory>
-    ensures event { IfOk result (λ event. event ≡ written.Put who text.now) }
-    ensures printable { IfOk result IsPrintable }
+fn put(who: Who, text: &List<u8>) -> Result<EventRef<'_>, NoMemory>
+    ensures event { IfOk result (λ event. event_lent event ≡ written.Put who text.now) }
+    ensures printable { IfOk result (λ event. IsPrintable (event_lent event)) }
 {
-    let text = put_text(alloc, text)?;
-    Ok(Event::Put { who, text })
+    let text = put_text(text)?;
+    Ok(EventRef::Put { who, text })
 }
 
 fn called(
@@ -166,13 +180,13 @@ fn called(
     owner: Owner,
     entry: EntryNo,
     priority: Level,
-) -> Result<Event, NoMemory>
+) -> Result<EventRef<'_>, NoMemory>
     ensures event { IfOk result
-        (λ event. event ≡ event_of p.now (line.Call task call owner entry priority)) }
-    ensures printable { IfOk result IsPrintable }
+        (λ event. event_lent event ≡ event_of p.now (line.Call task call owner entry priority)) }
+    ensures printable { IfOk result (λ event. IsPrintable (event_lent event)) }
 {
     let entry = name_of_entry(p, owner, entry)?;
-    Ok(Event::Call {
+    Ok(EventRef::Call {
         task,
         call,
         entry,
@@ -180,12 +194,13 @@ fn called(
     })
 }
 
-fn finished(p: &Program, who: Who, call: CallNo, how: MeetingEnd) -> Result<Event, NoMemory>
-    ensures event { IfOk result (λ event. event ≡ event_of p.now (line.Finish who call how)) }
-    ensures printable { IfOk result IsPrintable }
+fn finished(p: &Program, who: Who, call: CallNo, how: MeetingEnd) -> Result<EventRef<'_>, NoMemory>
+    ensures event { IfOk result
+        (λ event. event_lent event ≡ event_of p.now (line.Finish who call how)) }
+    ensures printable { IfOk result (λ event. IsPrintable (event_lent event)) }
 {
     let how = finished_how(p, how)?;
-    Ok(Event::Finish { who, call, how })
+    Ok(EventRef::Finish { who, call, how })
 }
 
 fn initialized(
@@ -194,13 +209,13 @@ fn initialized(
     object: u32,
     region: RegionNo,
     declared: DeclNo,
-) -> Result<Event, NoMemory>
+) -> Result<EventRef<'_>, NoMemory>
     ensures event { IfOk result
-        (λ event. event ≡ event_of p.now (line.Init who object region declared)) }
-    ensures printable { IfOk result IsPrintable }
+        (λ event. event_lent event ≡ event_of p.now (line.Init who object region declared)) }
+    ensures printable { IfOk result (λ event. IsPrintable (event_lent event)) }
 {
     let name = name(declaration_of(p, declared).name.as_slice())?;
-    Ok(Event::Init {
+    Ok(EventRef::Init {
         who,
         object,
         region,
@@ -208,12 +223,13 @@ fn initialized(
     })
 }
 
-fn released(p: &Program, release: u32, handler: HandlerOf) -> Result<Event, NoMemory>
-    ensures event { IfOk result (λ event. event ≡ event_of p.now (line.Release release handler)) }
-    ensures printable { IfOk result IsPrintable }
+fn released(p: &Program, release: u32, handler: HandlerOf) -> Result<EventRef<'_>, NoMemory>
+    ensures event { IfOk result
+        (λ event. event_lent event ≡ event_of p.now (line.Release release handler)) }
+    ensures printable { IfOk result (λ event. IsPrintable (event_lent event)) }
 {
     let name = name(subprogram_of(p, handler.procedure).name.as_slice())?;
-    Ok(Event::Release {
+    Ok(EventRef::Release {
         release,
         object: handler.object,
         handler: name,
@@ -222,10 +238,10 @@ fn released(p: &Program, release: u32, handler: HandlerOf) -> Result<Event, NoMe
 
 /// What a line of an effect says, with the names of the program.
 ///
-/// Errors: memory ran out, or a name or text is not one that a line can have.
-pub fn event_of(alloc: Global, p: &Program, line: &Line) -> Result<Event, NoMemory>
-    ensures event { IfOk result (λ event. event ≡ event_of p.now line.now) }
-    ensures printable { IfOk result IsPrintable }
+/// Errors: a name or text is not one that a line can have.
+pub fn event_of<'a>(p: &'a Program, line: &'a Line) -> Result<EventRef<'a>, NoMemory>
+    ensures event { IfOk result (λ event. event_lent event ≡ event_of p.now line.now) }
+    ensures printable { IfOk result (λ event. IsPrintable (event_lent event)) }
 {
     match line {
         Line::New {
@@ -238,28 +254,28 @@ pub fn event_of(alloc: Global, p: &Program, line: &Line) -> Result<Event, NoMemo
             level,
             end,
             deadline,
-        } => Ok(Event::Ready {
+        } => Ok(EventRef::Ready {
             who: *who,
             level: *level,
             end: *end,
             deadline: *deadline,
         }),
-        Line::Block { who, waits } => Ok(Event::Block {
+        Line::Block { who, waits } => Ok(EventRef::Block {
             who: *who,
             waits: *waits,
         }),
-        Line::Base { task, level } => Ok(Event::Base {
+        Line::Base { task, level } => Ok(EventRef::Base {
             task: *task,
             level: *level,
         }),
-        Line::Deadline { task, deadline } => Ok(Event::Deadline {
+        Line::Deadline { task, deadline } => Ok(EventRef::Deadline {
             task: *task,
             deadline: *deadline,
         }),
-        Line::Quantum { task } => Ok(Event::Quantum { task: *task }),
-        Line::Done { task } => Ok(Event::Done { task: *task }),
+        Line::Quantum { task } => Ok(EventRef::Quantum { task: *task }),
+        Line::Done { task } => Ok(EventRef::Done { task: *task }),
         Line::Raise { who, exception } => raised(p, *who, *exception),
-        Line::Put { who, text } => put(alloc, *who, text),
+        Line::Put { who, text } => put(*who, text),
         Line::Call {
             task,
             call,
@@ -267,39 +283,39 @@ pub fn event_of(alloc: Global, p: &Program, line: &Line) -> Result<Event, NoMemo
             entry,
             priority,
         } => called(p, *task, *call, *owner, *entry, *priority),
-        Line::Start { who, call } => Ok(Event::Start {
+        Line::Start { who, call } => Ok(EventRef::Start {
             who: *who,
             call: *call,
         }),
         Line::Finish { who, call, how } => finished(p, *who, *call, *how),
-        Line::Cancel { task, call } => Ok(Event::Cancel {
+        Line::Cancel { task, call } => Ok(EventRef::Cancel {
             task: *task,
             call: *call,
         }),
-        Line::Gone { task, call } => Ok(Event::Gone {
+        Line::Gone { task, call } => Ok(EventRef::Gone {
             task: *task,
             call: *call,
         }),
-        Line::Enter { who, object, mode } => Ok(Event::Enter {
+        Line::Enter { who, object, mode } => Ok(EventRef::Enter {
             who: *who,
             object: *object,
             mode: *mode,
         }),
-        Line::Exit { who, object } => Ok(Event::Exit {
+        Line::Exit { who, object } => Ok(EventRef::Exit {
             who: *who,
             object: *object,
         }),
-        Line::Held { who, object, mode } => Ok(Event::Held {
+        Line::Held { who, object, mode } => Ok(EventRef::Held {
             who: *who,
             object: *object,
             mode: *mode,
         }),
-        Line::Abort { task, victim } => Ok(Event::Abort {
+        Line::Abort { task, victim } => Ok(EventRef::Abort {
             task: *task,
             victim: *victim,
         }),
-        Line::Trigger { task } => Ok(Event::Trigger { task: *task }),
-        Line::Leave { who, region, how } => Ok(Event::Leave {
+        Line::Trigger { task } => Ok(EventRef::Trigger { task: *task }),
+        Line::Leave { who, region, how } => Ok(EventRef::Leave {
             who: *who,
             region: *region,
             how: *how,
@@ -310,27 +326,27 @@ pub fn event_of(alloc: Global, p: &Program, line: &Line) -> Result<Event, NoMemo
             region,
             declared,
         } => initialized(p, *who, *object, *region, *declared),
-        Line::Final { who, object } => Ok(Event::Final {
+        Line::Final { who, object } => Ok(EventRef::Final {
             who: *who,
             object: *object,
         }),
-        Line::Left { who, region } => Ok(Event::Left {
+        Line::Left { who, region } => Ok(EventRef::Left {
             who: *who,
             region: *region,
         }),
-        Line::Replace { who, object } => Ok(Event::Replace {
+        Line::Replace { who, object } => Ok(EventRef::Replace {
             who: *who,
             object: *object,
         }),
         Line::Release { release, handler } => released(p, *release, *handler),
-        Line::Served { release } => Ok(Event::Served { release: *release }),
-        Line::Interrupt { number } => Ok(Event::Interrupt { number: *number }),
-        Line::Port { number, value } => Ok(Event::Port {
+        Line::Served { release } => Ok(EventRef::Served { release: *release }),
+        Line::Interrupt { number } => Ok(EventRef::Interrupt { number: *number }),
+        Line::Port { number, value } => Ok(EventRef::Port {
             number: *number,
             value: *value,
         }),
-        Line::Mask { number } => Ok(Event::Mask { number: *number }),
-        Line::Unmask { number } => Ok(Event::Unmask { number: *number }),
-        Line::Masked { number } => Ok(Event::Masked { number: *number }),
+        Line::Mask { number } => Ok(EventRef::Mask { number: *number }),
+        Line::Unmask { number } => Ok(EventRef::Unmask { number: *number }),
+        Line::Masked { number } => Ok(EventRef::Masked { number: *number }),
     }
 }

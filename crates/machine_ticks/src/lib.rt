@@ -8,7 +8,7 @@ mod openings;
 mod stops;
 mod tocks;
 
-pub use events::{ended_by, event_of, tick_event};
+pub use events::{ended_by, event_of, tick_event, why_lent};
 pub use openings::opening;
 pub use stops::{Stopped, stop};
 pub use tocks::{TickLine, tock};

@@ -21,7 +21,7 @@ ghost use Rattle.trace_fields.specs.Reading.{part_in, entry_in, handler_in, dead
 
 use crate::words::{mode_of, queue_end_of, waits_of, word_of};
 use ann_base::{Moment, NAME_BYTES, Name, ObjectNo, TaskNo};
-use trace_text::{EntryName, Finished, Mode, QueueEnd, Waits, Word};
+use trace_text::{EntryName, Finished, Mode, NameRef, QueueEnd, TextRef, Waits, Word};
 
 // The first place of a byte, or the length where there is none.
 fn place_of(bytes: &[u8], mark: u8) -> usize
@@ -108,16 +108,28 @@ fn is_name(bytes: &[u8]) -> bool
     begun
 }
 
+/// A name, lent.
+pub fn name_lent(bytes: &[u8]) -> Option<NameRef<'_>>
+    ensures read { result ≡ name_in bytes.now }
+    ensures spelt { IfSome result (λ name. bytes.now ≡ name) }
+    ensures name { IfSome result IsName }
+{
+    if is_name(bytes) && bytes.len() <= NAME_BYTES {
+        Some(NameRef::new(bytes))
+    } else {
+        None
+    }
+}
+
 /// A name.
 pub fn name_of(bytes: &[u8]) -> Option<Name>
     ensures read { result ≡ name_in bytes.now }
     ensures spelt { IfSome result (λ name. bytes.now ≡ name) }
     ensures name { IfSome result IsName }
 {
-    if is_name(bytes) && bytes.len() <= NAME_BYTES {
-        Some(Name::from_bytes(bytes))
-    } else {
-        None
+    match name_lent(bytes) {
+        Some(name) => Some(Name::from_bytes(name.as_bytes())),
+        None => None,
     }
 }
 
@@ -134,6 +146,19 @@ fn are_text_bytes(bytes: &[u8]) -> bool
     bytes.iter().all(|byte| is_text_byte(*byte))
 }
 
+/// What Put_Line puts, in two parts, lent.
+pub fn text_lent<'a>(front: &'a [u8], rest: &'a [u8]) -> Option<TextRef<'a>>
+    ensures read { result ≡ text_in (front.now ++ rest.now) }
+    ensures spelt { IfSome result (λ text. front.now ++ rest.now ≡ text) }
+    ensures text { IfSome result IsPutText }
+{
+    if are_text_bytes(front) && are_text_bytes(rest) && front.len() + rest.len() <= NAME_BYTES {
+        Some(TextRef::new(front, rest))
+    } else {
+        None
+    }
+}
+
 /// What Put_Line puts.
 pub fn text_of(bytes: &[u8]) -> Option<Name>
     ensures read { result ≡ text_in bytes.now }
@@ -147,8 +172,8 @@ pub fn text_of(bytes: &[u8]) -> Option<Name>
     }
 }
 
-/// The name of an exception.
-pub fn exception_of(bytes: &[u8]) -> Option<Name>
+/// The name of an exception, lent.
+pub fn exception_lent(bytes: &[u8]) -> Option<NameRef<'_>>
     ensures read { result ≡ exception_in bytes.now }
     ensures spelt { IfSome result (λ name. bytes.now ≡ name) }
     ensures name { IfSome result IsExceptionName }
@@ -156,7 +181,19 @@ pub fn exception_of(bytes: &[u8]) -> Option<Name>
     if bytes == b"ok".as_slice() || bytes == b"requeue".as_slice() {
         return None;
     }
-    name_of(bytes)
+    name_lent(bytes)
+}
+
+/// The name of an exception.
+pub fn exception_of(bytes: &[u8]) -> Option<Name>
+    ensures read { result ≡ exception_in bytes.now }
+    ensures spelt { IfSome result (λ name. bytes.now ≡ name) }
+    ensures name { IfSome result IsExceptionName }
+{
+    match exception_lent(bytes) {
+        Some(name) => Some(Name::from_bytes(name.as_bytes())),
+        None => None,
+    }
 }
 
 /// How a call ends.

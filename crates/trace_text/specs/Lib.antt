@@ -1,4 +1,5 @@
 pub mod Laws
+pub mod Lent
 pub mod Queue
 pub mod Summary
 pub mod Text

@@ -1,5 +1,6 @@
 //! A list that grows and shrinks at both ends.
-ghost use Rattle.std.specs.Prelude.{◌≡◌, ◌==◌, ◌≤◌, ◌++◌, ◌∷◌, [], length, IfErr, OnOk, OnErr, slice_get, option_copied, insert, remove, slice_index_or};
+ghost use Rattle.std.specs.Prelude.{◌≡◌, ◌==◌, ◌≤◌, ◌++◌, ◌∷◌, [], length, IfErr, OnOk, OnErr};
+ghost use Rattle.std.specs.Prelude.{slice_get, option_copied, insert, remove, slice_index_or};
 ghost use Rattle.std.specs.Option.{option_copied_mut};
 ghost use Rattle.std.specs.Borrow.{sem};
 ghost use Rattle.std.specs.Iterator.Runs.{YieldsRefsInOrder};
@@ -130,8 +131,8 @@ impl<T> List<T> {
         self.items.remove(place)
     }
 
-    /// Adds an item before the one at this place, or at the back where the place is the length. Want of memory hands
-    /// it back and leaves the list as it was.
+    /// Adds an item before the one at this place, or at the back where the place is the length. Want
+    /// of memory hands it back and leaves the list as it was.
     pub fn insert(&mut self, place: usize, item: T) -> Result<(), AllocFailed<T>>
         requires { place ≤ length self.old }
         ensures ok { OnOk result (self.new ≡ insert self.old place item) }
@@ -158,6 +159,13 @@ impl<T> List<T> {
         ensures { self.new ≡ [] }
     {
         self.items.clear();
+    }
+
+    /// The items in order, those of the first part before those of the second.
+    pub fn as_slices(&self) -> (&[T], &[T])
+        ensures { result.0.now ++ result.1.now ≡ self.now }
+    {
+        self.items.as_slices()
     }
 
     /// The items in order, from the front.

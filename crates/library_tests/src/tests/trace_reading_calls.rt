@@ -19,7 +19,7 @@ fn lines_are_read_and_written(rt: HostRuntime) {
     for line in LINES {
         let (tick, event) = read_line(line.as_bytes()).expect(&rt, "a line");
         buffer.clear();
-        write_line(tick, &event, &mut buffer);
+        write_line(tick, &event.lend(), &mut buffer);
         assert!(rt; buffer.bytes() == line.as_bytes(), "{line}");
     }
     texts_differ();

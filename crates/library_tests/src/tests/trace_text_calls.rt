@@ -11,7 +11,7 @@ fn expect(rt: &impl Abort, buffer: &mut LineBuffer, event: Event, line: &str)
     requires { IsPrintable event }
 {
     buffer.clear();
-    write_line(8, &event, buffer);
+    write_line(8, &event.lend(), buffer);
     assert!(rt; buffer.bytes() == line.as_bytes(), "{line}");
 }
 

@@ -7,6 +7,7 @@ ghost use Rattle.profile_machine.specs.Tasks.{is_who, found_task, task_at, task_
 ghost use Rattle.profile_machine.specs.Tasks.{number_of, is_runnable, is_made, waiting_in};
 ghost use Rattle.profile_machine.specs.Tasks.{waiting_of, edit_task, with_state, with_ticks};
 ghost use Rattle.machine_frames.specs.Lends.{lends_found, lends_task};
+ghost use Rattle.trace_text.specs.declared.events.Who.TheVariants.{Agent};
 
 use ann_base::{Level, TaskNo};
 use profile_image::TIME_LAST;
@@ -48,17 +49,27 @@ pub fn new_task(alloc: Global, who: Who, base: Level, state: State) -> Task
     }
 }
 
+// The agent among the tasks, if it is there. It stands elsewhere, so nobody is found.
+#[inline(never)]
+fn agent_among(tasks: &Roster<Task>) -> Option<&Task>
+    ensures { option_copied result ≡ found_task Agent tasks.now }
+{
+    tasks.iter().find(|task| same_who(Who::Agent, task.who))
+}
+
 /// The task with this name, if it is there.
+#[inline(always)]
 pub fn found_task(name: Who, tasks: &Roster<Task>) -> Option<&Task>
     ensures { option_copied result ≡ found_task name tasks.now }
 {
     match name {
         Who::Task(number) => tasks.find(number.0),
-        Who::Agent => tasks.iter().find(|task| same_who(name, task.who)),
+        Who::Agent => agent_among(tasks),
     }
 }
 
 /// The task, or the agent, that has this name, if it is there.
+#[inline(always)]
 pub fn task_at(world: &World, name: Who) -> Option<&Task>
     ensures { option_copied result ≡ task_at world.now name }
 {
@@ -68,17 +79,27 @@ pub fn task_at(world: &World, name: Who) -> Option<&Task>
     }
 }
 
+// Where the agent stands among the tasks.
+#[inline(never)]
+fn place_of_agent(tasks: &Roster<Task>) -> Option<usize>
+    ensures { result ≡ position_from (is_who Agent) 0 tasks.now }
+{
+    tasks.iter().position(|task| same_who(Who::Agent, task.who))
+}
+
 // Where the first task with this name stands.
+#[inline(always)]
 fn place_of(tasks: &Roster<Task>, name: Who) -> Option<usize>
     ensures { result ≡ position_from (is_who name) 0 tasks.now }
 {
     match name {
         Who::Task(number) => tasks.place_of(number.0),
-        Who::Agent => tasks.iter().position(|task| same_who(name, task.who)),
+        Who::Agent => place_of_agent(tasks),
     }
 }
 
 // The task at this place, where the first one with this name stands, for writing.
+#[inline(always)]
 fn task_in_place(tasks: &mut Roster<Task>, name: Who, place: usize) -> Option<&mut Task>
     requires { position_from (is_who name) 0 tasks.old ≡ Some place }
     ensures* writes_back { sem 𝓛 (lends_found tasks.entry name result) }
@@ -88,6 +109,7 @@ fn task_in_place(tasks: &mut Roster<Task>, name: Who, place: usize) -> Option<&m
 }
 
 /// The task with this name for writing, if it is there.
+#[inline(always)]
 pub fn found_task_mut(tasks: &mut Roster<Task>, name: Who) -> Option<&mut Task>
     ensures* writes_back { sem 𝓛 (lends_found tasks.entry name result) }
     ensures value { option_copied_mut result ≡ found_task name tasks.old }
@@ -99,6 +121,7 @@ pub fn found_task_mut(tasks: &mut Roster<Task>, name: Who) -> Option<&mut Task>
 }
 
 /// The task, or the agent, that has this name, for writing, if it is there.
+#[inline(always)]
 pub fn task_mut(world: &mut World, name: Who) -> Option<&mut Task>
     ensures* writes_back { sem 𝓛 (lends_task world.entry name result) }
     ensures value { option_copied_mut result ≡ task_at world.old name }

@@ -1,6 +1,6 @@
 -- What a roster remembers: sums over all items but one, before and after that one is taken back or changed.
 use Rattle.std.proofs.Common.{◌≡◌, ℕ, ◌+◌, ◌<◌, length, eqb, Bool, true, false, not, cond, ◌||◌, suc, zero, List, []}
-use Rattle.std.proofs.Common.{◌∷◌, ◌++◌, Option, Some, None, remove, map, take, sum_by, refl, sym, ap, ◌∙◌, subst, arith}
+use Rattle.std.proofs.Common.{◌∷◌, ◌++◌, Option, Some, None, remove, slice_set, map, take, sum_by, refl, sym, ap, ◌∙◌, subst, arith}
 use Rattle.std.specs.List.{slice_get, list_any, IsItemAtMut}
 use Rattle.std.specs.Option.{option_copied_mut, is_some, IsSome}
 use Rattle.std.proofs.lemmas.Option.{gets, slice_get_within, get_or_from_slice_get}
@@ -10,7 +10,7 @@ use Rattle.std.proofs.lemmas.Bool.{true≢false}
 use Rattle.std.proofs.lemmas.Bool.Decides.{nat_tests}
 use Rattle.std.specs.Borrow.{MutBor}
 use Rattle.std.proofs.lemmas.List.Sums.{sum_by-cons, sum_by_push}
-use Rattle.rosters.specs.RosterNotes.{others, part_at, part_of, one_if, IsSum, IsOrdered, AreRight}
+use Rattle.rosters.specs.RosterNotes.{others, part_at, part_of, one_if, IsSum, IsOrdered, IsInFront, AreRight}
 use Rattle.rosters.specs.declared.roster.Numbered.{Ghosts}
 use Rattle.rosters.specs.declared.roster_notes.Notes.{Notes}
 use Rattle.rosters.specs.declared.roster_notes.Order.{Order}
@@ -79,7 +79,7 @@ module _ {X : Type 0} where
         → IsSum notes.stirring (sum_by (one_if numbered.stirs) xs) → AreRight numbered xs notes
     right-whole notes none order sizes stirring =
         let known = subst (AreKnown notes.order notes.size notes.stirring) (sym none) (order, (sizes, stirring)) in
-        record { order = known.0; sizes = known.1.0; stirring = known.1.1 }
+        record { order = known.0; sizes = known.1.0; stirring = known.1.1; front = λ p e. cc }
 
     pub whole-order : (notes : Notes) → notes.lent ≡ None → AreRight numbered xs notes → IsOrdered notes.order (map numbered.number xs)
     whole-order notes none right = (known-whole notes none right).0
@@ -89,6 +89,24 @@ module _ {X : Type 0} where
 
     pub whole-stirring : (notes : Notes) → notes.lent ≡ None → AreRight numbered xs notes → IsSum notes.stirring (sum_by (one_if numbered.stirs) xs)
     whole-stirring notes none right = (known-whole notes none right).1.1
+
+-- the item at the lent place may become any other
+others-set : {X : Type 0} (xs : List X) (p : ℕ) (w : X) → remove (slice_set xs p w) p ≡ remove xs p
+others-set [] zero w = refl
+others-set [] (suc p) w = refl
+others-set (x ∷ xs) zero w = refl
+others-set (x ∷ xs) (suc p) w = ap (λ ys. x ∷ ys) (others-set xs p w)
+
+pub right-set : {X : Type 0} (numbered : Ghosts X) (xs : List X) (notes : Notes) (p : ℕ) (w : X) → notes.lent ≡ Some p → AreRight numbered xs notes
+    → AreRight numbered (slice_set xs p w) notes
+right-set numbered xs notes p w lent right =
+    let same = ap (others xs) lent ∙ (sym (others-set xs p w) ∙ sym (ap (others (slice_set xs p w)) lent)) in
+    record {
+      order = subst (λ ys. IsOrdered notes.order (map numbered.number ys)) same right.order;
+      sizes = subst (λ ys. IsSum notes.size (sum_by numbered.size ys)) same right.sizes;
+      stirring = subst (λ ys. IsSum notes.stirring (sum_by (one_if numbered.stirs) ys)) same right.stirring;
+      front = subst (λ ys. IsInFront notes.front notes.lent (map numbered.number ys)) same right.front;
+    }
 
 -- the items but the lent one are in the order that is remembered
 pub others-in-order : {X : Type 0} (number : X → Option ℕ) (xs : List X) (known : Option Order) (lent : Option ℕ) (o : Order) (p : ℕ)

@@ -263,6 +263,17 @@ number-none f [] p e = refl
 number-none f (y ∷ xs) zero e = cc
 number-none f (y ∷ xs) (suc p) e = number-none f xs p e
 
+number-kept : (ns : List (Option ℕ)) (place p : ℕ) → place ≡ p + 1 → number_at (remove ns place) p ≡ number_at ns p
+number-kept ns place p e = elim (cases_lt place (length ns)) [
+  | inl lt ↦ get_or-remove_below ns place None p (omega arith) lt
+  | inr le ↦ ap (λ ms. number_at ms p) (remove-past ns place le)
+]
+
+-- the number in front of a place stays where the item at that place goes
+pub front-kept : {X : Type 0} (f : X → Option ℕ) (xs : List X) (place p : ℕ) → place ≡ p + 1
+    → number_at (map f (remove xs place)) p ≡ number_at (map f xs) p
+front-kept f xs place p e = ap (λ ns. number_at ns p) (map-remove f xs place) ∙ number-kept (map f xs) place p e
+
 pub ordered-remove : {X : Type 0} (f : X → Option ℕ) (found : Option Order) (xs : List X) (p : ℕ) → IsOrdered found (map f xs)
     → IsOrdered found (map f (remove xs p))
 ordered-remove f None xs p h = tt

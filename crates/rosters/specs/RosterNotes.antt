@@ -1,5 +1,5 @@
 -- What a roster remembers of its items: sums over all of them but the one that it lent last, and their order.
-use Rattle.std.specs.Prelude.{ℕ, ◌-◌, ◌<◌, ltb, Bool, true, false, cond, List, Option, Some}
+use Rattle.std.specs.Prelude.{ℕ, ◌+◌, ◌-◌, ◌<◌, ltb, Bool, true, false, cond, List, Option, Some}
 use Rattle.std.specs.Prelude.{None, ◌≡◌, length, map, get_or, remove, sum_by, slice_get}
 use Rattle.rosters.specs.declared.roster.Numbered.{Ghosts}
 use Rattle.rosters.specs.declared.roster_notes.Notes.{Notes}
@@ -73,8 +73,13 @@ distance Falling (Some first) n = first - n
 
 -- ---- the notes
 
+-- where the item behind a place is lent, this is the number at that place
+abbrev pub IsInFront : Option ℕ → Option ℕ → List (Option ℕ) → Type 0
+IsInFront front lent ns = (p : ℕ) → lent ≡ Some (p + 1) → front ≡ number_at ns p
+
 -- the notes are right about these items
 pub record AreRight {X : Type 0} (numbered : Ghosts X) (xs : List X) (notes : Notes) : Type 0 where
   pub order : IsOrdered notes.order (map numbered.number (others xs notes.lent))
   pub sizes : IsSum notes.size (sum_by numbered.size (others xs notes.lent))
   pub stirring : IsSum notes.stirring (sum_by (one_if numbered.stirs) (others xs notes.lent))
+  pub front : IsInFront notes.front notes.lent (map numbered.number (others xs notes.lent))

@@ -109,6 +109,7 @@ impl<T: Numbered> Roster<T> {
     }
 
     /// Where the first item with this number stands, counted from 0 at the front.
+    #[inline(always)]
     pub fn place_of(&self, number: u32) -> Option<usize>
         ensures { result ≡ position_from (λ x. has_number number (T.number x)) 0 self.now }
     {
@@ -123,6 +124,7 @@ impl<T: Numbered> Roster<T> {
     }
 
     /// The item at a place for writing, if there is one.
+    #[inline(always)]
     pub fn get_mut(&mut self, place: usize) -> Option<&mut T>
         ensures* writes_back { sem 𝓛 (lends_item T.row T.Numbered self.entry place result) }
         ensures value { option_copied_mut result ≡ slice_get self.old place }
@@ -132,6 +134,7 @@ impl<T: Numbered> Roster<T> {
     }
 
     /// The first item with this number, if it is there.
+    #[inline(always)]
     pub fn find(&self, number: u32) -> Option<&T>
         ensures { option_copied result ≡ find (λ x. has_number number (T.number x)) self.now }
     {

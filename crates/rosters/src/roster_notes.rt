@@ -41,6 +41,8 @@ pub(crate) enum Order {
 pub(crate) struct Notes {
     /// The place that was lent last, if its item has not been taken back.
     lent: Option<usize>,
+    /// The number of the item in front of the lent one.
+    front: Option<u32>,
     /// The order of all items but the lent one; none if it is not known, or there is none.
     order: Option<Order>,
     /// The size of all items but the lent one; none if a number cannot hold it.
@@ -107,6 +109,16 @@ fn number_at<T: Numbered>(items: &VecDeque<T>, place: usize) -> Option<u32>
         Some(item) => item.number(),
         None => None,
     }
+}
+
+// The number of the item in front of a place, if there is one with a number.
+fn number_before<T: Numbered>(items: &VecDeque<T>, place: usize) -> Option<u32>
+    ensures { (p : ℕ) → place ≡ p + 1 → result ≡ number_at (map T.number items.now.items) p }
+{
+    if place == 0 {
+        return None;
+    }
+    number_at(items, place - 1)
 }
 
 // Whether a number comes before another.
@@ -293,6 +305,7 @@ fn taken_back<T: Numbered>(items: &VecDeque<T>, notes: &Notes) -> Notes
 {
     Notes {
         lent: None,
+        front: None,
         order: whole_order(items, notes),
         size: whole_size(items, notes),
         stirring: whole_stirring(items, notes),
@@ -311,20 +324,32 @@ fn left_out<T: Numbered>(items: &VecDeque<T>, notes: &Notes, place: usize) -> No
 {
     Notes {
         lent: Some(place),
+        front: number_before(items, place),
         order: notes.order,
         size: less(notes.size, lent_size(items, Some(place))),
         stirring: less(notes.stirring, lent_stirring(items, Some(place))),
     }
 }
 
+// The item at this place is lent, where another was lent last.
+#[inline(never)]
+fn lend_another<T: Numbered>(items: &VecDeque<T>, notes: &mut Notes, place: usize)
+    requires { AreRight T.Numbered items.now.items notes.old }
+    ensures right { AreRight T.Numbered items.now.items notes.new }
+    ensures lent { notes.new.lent ≡ Some place }
+{
+    *notes = left_out(items, &taken_back(items, notes), place);
+}
+
 // The item at this place is lent.
+#[inline(always)]
 pub(crate) fn lend<T: Numbered>(items: &VecDeque<T>, notes: &mut Notes, place: usize)
     requires { AreRight T.Numbered items.now.items notes.old }
     ensures right { AreRight T.Numbered items.now.items notes.new }
     ensures lent { notes.new.lent ≡ Some place }
 {
     if notes.lent != Some(place) {
-        *notes = left_out(items, &taken_back(items, notes), place);
+        lend_another(items, notes, place);
     }
 }
 
@@ -336,6 +361,7 @@ pub(crate) fn no_notes() -> Notes
 {
     Notes {
         lent: None,
+        front: None,
         order: None,
         size: Some(0),
         stirring: Some(0),
@@ -357,6 +383,7 @@ fn joined<T: Numbered>(notes: &Notes, item: &T, order: Option<Order>) -> Notes
 {
     Notes {
         lent: None,
+        front: None,
         order,
         size: more(notes.size, item.size()),
         stirring: more(notes.stirring, usize::from(item.stirs())),
@@ -529,17 +556,18 @@ fn place_behind<T: Numbered>(items: &VecDeque<T>, order: Order, number: u32) -> 
     low
 }
 
-// Whether the item in front of a place, if there is one, comes before this number.
-fn is_behind<T: Numbered>(items: &VecDeque<T>, order: Order, place: usize, number: u32) -> bool
-    ensures { result ≡ true → (i : ℕ) → i + 1 ≡ place
-        → comes_before order (number_at (map T.number items.now.items) i) (Some number) ≡ true }
+// Whether the number in front of a place, if there is a place in front of it, comes before this one.
+fn is_behind(order: Order, place: usize, front: Option<u32>, number: u32) -> bool
+    ensures { result ≡ true → (i : ℕ) → place ≡ i + 1
+        → comes_before order front (Some number) ≡ true }
 {
-    place == 0 || comes_before(order, number_at(items, place - 1), Some(number))
+    place == 0 || comes_before(order, front, Some(number))
 }
 
 // The item that was lent last, if it is the first with this number: who is looked for is often who
 // was changed last. The items are in order but for that one, so it is the first if the one in front
-// of it comes before it. It is short, so that it can stand at each place that looks for an item.
+// of it comes before it. It is short, and stands at each place that looks for an item.
+#[inline(always)]
 fn lent_found<'a, T: Numbered>(
     items: &'a VecDeque<T>,
     notes: &Notes,
@@ -554,7 +582,7 @@ fn lent_found<'a, T: Numbered>(
     let place = notes.lent?;
     let order = notes.order?;
     let item = item_at(items, place)?;
-    if is_number(number, item.number()) && is_behind(items, order, place, number) {
+    if is_number(number, item.number()) && is_behind(order, place, notes.front, number) {
         Some((place, item))
     } else {
         None
@@ -614,6 +642,7 @@ fn near_place<T: Numbered>(items: &VecDeque<T>, notes: &Notes, number: u32) -> O
 }
 
 // Where the first item with this number stands, whichever was lent last.
+#[inline(never)]
 fn place_of_any<T: Numbered>(items: &VecDeque<T>, notes: &Notes, number: u32) -> Option<usize>
     requires { AreRight T.Numbered items.now.items notes.now }
     ensures { result ≡ position_from (λ x. has_number number (T.number x)) 0 items.now.items }
@@ -628,6 +657,7 @@ fn place_of_any<T: Numbered>(items: &VecDeque<T>, notes: &Notes, number: u32) ->
 }
 
 // Where the first item with this number stands.
+#[inline(always)]
 pub(crate) fn place_of<T: Numbered>(
     items: &VecDeque<T>,
     notes: &Notes,
@@ -643,6 +673,7 @@ pub(crate) fn place_of<T: Numbered>(
 }
 
 // The first item with this number, whichever was lent last.
+#[inline(never)]
 fn find_any<'a, T: Numbered>(items: &'a VecDeque<T>, notes: &Notes, number: u32) -> Option<&'a T>
     requires { AreRight T.Numbered items.now.items notes.now }
     ensures { option_copied result
@@ -655,6 +686,7 @@ fn find_any<'a, T: Numbered>(items: &'a VecDeque<T>, notes: &Notes, number: u32)
 }
 
 // The first item with this number, if it is there.
+#[inline(always)]
 pub(crate) fn found<'a, T: Numbered>(
     items: &'a VecDeque<T>,
     notes: &Notes,

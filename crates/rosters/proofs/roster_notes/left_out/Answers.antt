@@ -1,6 +1,7 @@
+use Rattle.std.proofs.Common.{◌≡◌, ◌+◌, sym, ◌∙◌}
 use Rattle.rosters.specs.RosterNotes.{one_if}
 use Rattle.rosters.proofs.RosterNotesLemmas.{left-out, whole-order, whole-sizes, whole-stirring}
-use Rattle.rosters.proofs.RosterOrderLemmas.{ordered-remove}
+use Rattle.rosters.proofs.RosterOrderLemmas.{ordered-remove, front-kept}
 use Rattle.rosters.proofs.RosterNotesLemmas.{left-known}
 use Rattle.rosters.proofs.roster_notes.left_out.Goals as goal
 
@@ -19,6 +20,7 @@ returns-clause-right g c =
       order = ordered-remove t.number notes.order xs c.args.place order;
       sizes = left-out t.size xs c.args.place notes.size c.less.result sizes size_less;
       stirring = left-out (one_if t.stirs) xs c.args.place notes.stirring c.less-2.result stirring stirring_less;
+      front = λ p e. let at : c.args.place ≡ p + 1 = cc in c.number_before.ensures p at ∙ sym (front-kept t.number xs c.args.place p at);
     }
 
 pub returns-clause-known_size : goal.returns-clause-known_size

@@ -1,2 +1,3 @@
 pub mod Blocking
+pub mod Ordered
 pub mod Settling

@@ -10,7 +10,7 @@ use ann_base::NoMemory;
 use machine_dispatching::settle;
 use machine_frames::{Effect, open_if_ready, set_ticks, task_at};
 use machine_program::Program;
-use machine_tasking::{take_terminates, unwind_all};
+use machine_tasking::bring_about;
 use profile_machine::world::{Line, World};
 use std::alloc::Global;
 use trace_text::Who;
@@ -25,8 +25,7 @@ fn effect(alloc: Global, p: &Program, under_way: &mut Effect, name: Who) -> Resu
     set_ticks(&mut under_way.world, name, None);
     act(alloc, p, under_way, name)?;
     open_if_ready(p, under_way, name)?;
-    take_terminates(alloc, p, under_way, name)?;
-    unwind_all(alloc, p, under_way, name)
+    bring_about(alloc, p, under_way, name)
 }
 
 // Whether the action that has begun has no ticks left.

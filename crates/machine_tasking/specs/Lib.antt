@@ -1,2 +1,3 @@
 pub mod Aborted
+pub mod Calm
 pub mod KeptTasks

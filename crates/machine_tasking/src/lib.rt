@@ -16,4 +16,4 @@ mod settling;
 pub use aborts::abort_statement;
 pub use activations::{activate, end_own_activation};
 pub use endings::end_scope_mark;
-pub use settling::{take_terminates, unwind_all};
+pub use settling::bring_about;

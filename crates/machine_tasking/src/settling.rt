@@ -2,13 +2,15 @@
 //! constructs that are left (ISO/IEC 8652:2012, 9.7.1, 9.8).
 ghost use Rattle.std.specs.Prelude.{◌≡◌, filter, map, IfOk, OnOk};
 ghost use Rattle.profile_machine.specs.Masters.{may_terminate, leave_by_terminate};
-ghost use Rattle.profile_machine.specs.Steps.{for_each, looks};
+ghost use Rattle.profile_machine.specs.Masters.{waits_at_terminate};
+ghost use Rattle.profile_machine.specs.Steps.{for_each, looks, ◌▷◌};
 ghost use Rattle.profile_machine.specs.Tasks.{waiting_of};
 ghost use Rattle.profile_machine.specs.Tasking.{unwind_by, unwind_one, block_at_terminate};
 ghost use Rattle.profile_machine.specs.Tasking.{take_terminates, unwind_all};
 ghost use Rattle.profile_machine.specs.Unwinding.{any_struck};
 ghost use Rattle.machine_frames.specs.Did.{Did};
 ghost use Rattle.machine_tasking.specs.KeptTasks.{kept_of, task_kept, tasks_kept};
+ghost use Rattle.machine_tasking.specs.Calm.{IsCalm};
 
 use crate::kept::{Kept, kept_of};
 use ann_base::NoMemory;
@@ -100,9 +102,9 @@ fn leave_selects(
     all_leave_by_terminate(p, effect, actor, &tasks)
 }
 
-/// Tasks at open terminate alternatives that may end become ready, in order of number (9.7.1).
+// Tasks at open terminate alternatives that may end become ready, in order of number (9.7.1).
 #[tactic(auto, unfolding(profile_machine::specs::Tasking::take_terminates))]
-pub fn take_terminates(
+fn take_terminates(
     alloc: Global,
     p: &Program,
     effect: &mut Effect,
@@ -178,16 +180,48 @@ fn all_struck(alloc: Global, tasks: &Roster<Task>) -> Result<List<Kept>, NoMemor
     }
 }
 
-/// The tasks whose struck constructs may be left now are unwound (9.8).
+// The tasks whose struck constructs may be left now are unwound (9.8).
 #[tactic(auto, using(crate::proofs::KeptLemmas::kept_laws), unfolding(profile_machine::specs::Tasking::unwind_all))]
-pub fn unwind_all(
+fn unwind_all(alloc: Global, p: &Program, effect: &mut Effect, actor: Who) -> Result<(), NoMemory>
+    ensures { OnOk result (Did (unwind_all p.now actor) effect.old effect.new) }
+{
+    let tasks = all_struck(alloc, &effect.world.tasks)?;
+    unwind_kept(p, effect, actor, &tasks)
+}
+
+// Whether somebody waits at an open terminate alternative, where no task stirs: no task does then.
+#[tactic(auto, using(crate::proofs::CalmLemmas::waits_elsewhere))]
+fn is_at_terminate(world: &World, name: Who) -> bool
+    requires { IsCalm world.now.tasks }
+    ensures { result ≡ waits_at_terminate (waiting_of world.now name) }
+{
+    match name {
+        Who::Task(_) => false,
+        Who::Agent => match waiting_of(world, name) {
+            Some(waiting) => waits_at_terminate(waiting),
+            None => false,
+        },
+    }
+}
+
+/// What an effect brings about elsewhere: tasks at open terminate alternatives that may end become
+/// ready, in order of number, and tasks whose struck constructs may be left now are unwound (9.7.1,
+/// 9.8). Most effects bring about nothing, and one look at all tasks tells so.
+///
+/// Errors: memory ran out.
+#[tactic(auto, using(crate::proofs::CalmLemmas::nothing_elsewhere))]
+pub fn bring_about(
     alloc: Global,
     p: &Program,
     effect: &mut Effect,
     actor: Who,
 ) -> Result<(), NoMemory>
-    ensures { OnOk result (Did (unwind_all p.now actor) effect.old effect.new) }
+    ensures { OnOk result
+        (Did (take_terminates p.now actor ▷ unwind_all p.now actor) effect.old effect.new) }
 {
-    let tasks = all_struck(alloc, &effect.world.tasks)?;
-    unwind_kept(p, effect, actor, &tasks)
+    if effect.world.tasks.is_calm() && !is_at_terminate(&effect.world, actor) {
+        return Ok(());
+    }
+    take_terminates(alloc, p, effect, actor)?;
+    unwind_all(alloc, p, effect, actor)
 }

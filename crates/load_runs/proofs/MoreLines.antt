@@ -1,7 +1,8 @@
 -- A tally with one line more.
 use Rattle.std.proofs.Common.{◌≡◌, ◌≤◌, ◌+◌, ℕ, Bool, true, false, cond, List, [], ◌∷◌, ◌++◌, Result, Ok, Err}
-use Rattle.std.proofs.Common.{OnOk, length, map, drop, refl, sym, ap, ◌∙◌, subst, append-nil, arith, decimal}
+use Rattle.std.proofs.Common.{OnOk, eqb, length, map, drop, refl, sym, ap, ◌∙◌, subst, append-nil, arith, decimal}
 use Rattle.std.proofs.lemmas.List.{drop_all}
+use Rattle.std.proofs.lemmas.Bool.Decides.{nat_tests}
 use Rattle.std.proofs.lemmas.List.Sums.{sum_by_push}
 use Rattle.std.specs.List.{flat_map}
 use Rattle.std.specs.Str.{bytes_eq}
@@ -94,6 +95,18 @@ tallied-none tally piece r bad is only before [] t one printable e = subst (Tall
 tallied-none tally piece r bad is only before (line ∷ []) t one printable e =
     absurd (not-both r bad (line.0, line.1) is (only line.0 line.1 printable.0 (e ∙ append-nil (line_text line.0 line.1))))
 tallied-none tally piece r bad is only before (line ∷ next ∷ lines) t one printable e = absurd (omega (arith, one))
+
+-- an empty piece is no line
+empty : (piece : List ℕ) → eqb (length piece) 0 ≡ true → piece ≡ []
+empty [] e = refl
+empty (byte ∷ piece) e = absurd (grind (arith, nat_tests, e))
+
+pub tallied-empty : (tally : Tally) (piece : List ℕ) → eqb (length piece) 0 ≡ true
+    → (before lines : List TraceLine) → Tallies tally before → length lines ≤ 1 → ArePrintable lines → piece ≡ text_of lines → Tallies tally (before ++ lines)
+tallied-empty tally piece is before [] t one printable e = subst (Tallies tally) (sym (append-nil before)) t
+tallied-empty tally piece is before (line ∷ []) t one printable e =
+    absurd (not-empty (decimal line.0) (spaced (words_of line.1)) (sym (empty piece is) ∙ (e ∙ append-nil (line_text line.0 line.1))))
+tallied-empty tally piece is before (line ∷ next ∷ lines) t one printable e = absurd (omega (arith, one))
 
 -- the lines of the words
 texts-counted : (lines : List TraceLine) (words : List Word) → flat_map count_text (map (count_in lines) words) ≡ count_lines words lines

@@ -1,5 +1,5 @@
 -- The texts of tasks from one on: its own, and those of the tasks behind it.
-use Rattle.std.proofs.Common.{◌≡◌, ◌<◌, ◌+◌, ◌-◌, ℕ, zero, suc, List, [], ◌++◌, sym, ap, ◌∙◌, append-nil, append_assoc, arith}
+use Rattle.std.proofs.Common.{◌≡◌, ◌<◌, ◌+◌, ◌-◌, ℕ, zero, suc, List, ◌++◌, sym, ap, ◌∙◌, append-nil, append_assoc, arith}
 use Rattle.load_runs.specs.Source.{declaration_text, body_text, declarations_from, bodies_from}
 
 pub no_declaration : (text : List ℕ) (first count : ℕ) → count ≡ 0 → text ≡ text ++ declarations_from first count

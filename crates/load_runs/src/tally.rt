@@ -3,6 +3,8 @@ ghost use Rattle.std.specs.Prelude.{◌≡◌, ◌≤◌, ◌++◌, List, [], le
 ghost use Rattle.trace_text.specs.Queue.{TraceLine};
 ghost use Rattle.trace_text.specs.Text.{ArePrintable, text_of};
 ghost use Rattle.trace_text.specs.Summary.{summary_of};
+ghost use Rattle.trace_text.specs.Words.{word_text};
+ghost use Rattle.trace_text.specs.declared.words.Word.{Word};
 ghost use Rattle.load_runs.specs.Tallies.{Tallies, counted, count_text, none_of};
 
 use ann_base::NoMemory;
@@ -45,6 +47,9 @@ impl Tally {
             ((before lines : List TraceLine) → Tallies self.old before → length lines ≤ 1
             → ArePrintable lines → piece.now ≡ text_of lines → Tallies self.new (before ++ lines)) }
     {
+        if piece.is_empty() {
+            return Ok(());
+        }
         match read_line(piece) {
             Ok(read) => self.line(event_word(&read.1), piece),
             Err(_) => Ok(()),
@@ -78,11 +83,12 @@ impl Tally {
 }
 
 impl Count {
-    /// With a line of this word more.
-    fn counted(self, word: Word) -> Result<Count, NoMemory>
-        ensures { IfOk result (λ count. count ≡ counted word self) }
+    /// With a line more of the word with this text.
+    fn counted(self, text: &[u8]) -> Result<Count, NoMemory>
+        ensures { IfOk result (λ count. (word : Word) → text.now ≡ word_text word
+            → count ≡ counted word self) }
     {
-        if word_bytes(word) == word_bytes(self.word) {
+        if text == word_bytes(self.word) {
             let count = self.count.checked_add(1).ok_or(NoMemory)?;
             Ok(Count {
                 word: self.word,
@@ -112,8 +118,9 @@ fn none_counted(alloc: Global, words: &[Word]) -> Result<Vec<Count>, NoMemory>
 fn count_word(counts: &mut [Count], word: Word) -> Result<(), NoMemory>
     ensures { OnOk result (counts.new ≡ map (counted word) counts.old) }
 {
+    let text = word_bytes(word);
     for count in counts.iter_mut() {
-        *count = count.counted(word)?;
+        *count = count.counted(text)?;
     }
     Ok(())
 }

@@ -1,4 +1,4 @@
-use Rattle.std.proofs.Common.{◌∙◌, ap, [], ◌++◌, codes}
+use Rattle.std.proofs.Common.{◌∙◌, ap, ◌++◌, codes}
 use Rattle.load_runs.specs.Source.{declarations_from, bodies_from}
 use Rattle.load_runs.proofs.Joined.{joined}
 use Rattle.load_runs.proofs.source.load_source.Goals as goal

@@ -1,5 +1,9 @@
-use Rattle.load_runs.proofs.MoreLines.{read-tallied, tallied-none}
+use Rattle.std.proofs.Common.{sym, ◌∙◌}
+use Rattle.load_runs.proofs.MoreLines.{read-tallied, tallied-none, tallied-empty}
 use Rattle.load_runs.proofs.tally.Tally.piece.Goals as goal
+
+pub returns-then-is_empty : goal.returns-then-is_empty
+returns-then-is_empty c = tallied-empty c.args.self.now c.args.piece.now (sym c.is_empty.ensures ∙ c.if-is_empty.true)
 
 pub returns-in-Ok : goal.returns-in-Ok
 returns-in-Ok c =

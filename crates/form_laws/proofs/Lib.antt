@@ -1,3 +1,10 @@
 pub mod Names
 pub mod Attributes
 pub mod Expressions
+pub mod Standing
+pub mod Parts
+pub mod Assignments
+pub mod Values
+pub mod Statements
+pub mod Sequences
+pub mod Units

@@ -24,6 +24,7 @@ use Rattle.ada_regions.specs.Words.{and_then}
 use Rattle.ada_image.specs.Layout.{array_of}
 use Rattle.ada_image.specs.TypesOfExpressions.{type_of_operation}
 use Rattle.ada_legality.specs.declared.parts.ActualPart.{ActualPart}
+use Rattle.ada_legality.specs.declared.reading.Typed.{Typed}
 use Rattle.ada_legality.specs.declared.reading.Typed.TheVariants as typing
 use Rattle.ada_legality.specs.declared.standing.Known.{Known}
 use Rattle.ada_legality.specs.Faults.{faults_in}
@@ -37,7 +38,7 @@ use Rattle.ada_legality.specs.Attributes.{ends_of_object}
 use Rattle.ada_legality.specs.Attributes.{type_of_index}
 use Rattle.ada_legality.specs.ReadExpressions.{index_fits, is_unclear, is_unclear_mark}
 use Rattle.ada_legality.specs.ReadExpressions.{is_unclear_object, is_value_with, may_be_value, name_judged}
-use Rattle.image_laws.specs.Clear.{constant_clear, denoted_clear, index_clear, name_clear}
+use Rattle.image_laws.specs.Clear.{has_values, constant_clear, denoted_clear, index_clear, name_clear}
 use Rattle.image_laws.proofs.Forms.Actuals.{or-first, or-second}
 use Rattle.image_laws.proofs.Forms.Nothing.{none-of, unless-none}
 use Rattle.form_laws.specs.Tables.{ClearTable, array_clear, component_clear, denoted_stands, item_clear, kind_clear, kind_stands}
@@ -52,6 +53,10 @@ typed-there (Some s) h = refl
 pub typed-if_there : (t : Option AdaType) → is_some t ≡ true → has_type (typed_if t) ≡ true
 typed-if_there None h = absurd (false≢true h)
 typed-if_there (Some t) h = refl
+
+pub values-typed : (x : Typed) → has_values x ≡ true → has_type x ≡ true
+values-typed typing.WithoutType h = absurd (false≢true h)
+values-typed _ h = refl
 
 object-there : (s : Option Subtype) → object_clear s ≡ true → is_some s ≡ true
 object-there None h = absurd (false≢true h)
@@ -119,26 +124,26 @@ module _ (k : Known) (t : ClearTable k) where
 
   -- ---- elements of arrays
 
-  element-there : (i : Option AdaType) (x : Option ArrayType) → array_clear i x ≡ true → is_some i ≡ true
-      → has_type (typed_by (and_then x (λ a. a.component))) ≡ true
-  element-there None x c h = absurd (false≢true h)
-  element-there (Some t) None c h = absurd (false≢true c)
-  element-there (Some t) (Some a) c h = component-typed a.component (and_parts _ _ (and_parts _ _ c).1).1
+  element-values : (i : Option AdaType) (x : Option ArrayType) → array_clear i x ≡ true → is_some i ≡ true
+      → has_values (typed_by (and_then x (λ a. a.component))) ≡ true
+  element-values None x c h = absurd (false≢true h)
+  element-values (Some t) None c h = absurd (false≢true c)
+  element-values (Some t) (Some a) c h = go a.component (and_parts _ _ (and_parts _ _ c).1).1
     where
-      component-typed : (s : Option Subtype) → component_clear s ≡ true → has_type (typed_by s) ≡ true
-      component-typed None c = absurd (false≢true c)
-      component-typed (Some s) c = refl
+      go : (s : Option Subtype) → component_clear s ≡ true → has_values (typed_by s) ≡ true
+      go None c = absurd (false≢true c)
+      go (Some s) c = c
 
-  of-array : (x : AdaType) → is_some (type_of_index k x) ≡ true → has_type (typed_by (and_then (array_of k.names x) (λ a. a.component))) ≡ true
+  of-array : (x : AdaType) → is_some (type_of_index k x) ≡ true → has_values (typed_by (and_then (array_of k.names x) (λ a. a.component))) ≡ true
   unfolding type_of_index array_of
-  of-array (types.Array a) h = element-there (slice_get k.indexes a) (slice_get k.names.arrays a) (t.arrays a) h
+  of-array (types.Array a) h = element-values (slice_get k.indexes a) (slice_get k.names.arrays a) (t.arrays a) h
   of-array _ h = absurd (false≢true h)
 
-  component-there : (s : Option Subtype) → is_some (and_then s (λ x. type_of_index k x.of_type)) ≡ true
-      → has_type (typed_by (and_then s (component_subtype k.names))) ≡ true
+  pub component-values : (s : Option Subtype) → is_some (and_then s (λ x. type_of_index k x.of_type)) ≡ true
+      → has_values (typed_by (and_then s (component_subtype k.names))) ≡ true
   unfolding component_subtype
-  component-there None h = absurd (false≢true h)
-  component-there (Some s) h = of-array s.of_type h
+  component-values None h = absurd (false≢true h)
+  component-values (Some s) h = of-array s.of_type h
 
   index-type : (x : AdaType) → index_clear (type_of_index k x) ≡ true
   unfolding type_of_index
@@ -164,7 +169,8 @@ module _ (k : Known) (t : ClearTable k) where
       → has_type (typed_by (subtype_with_index k.names has (subtype_of_entity k d))) ≡ true
   unfolding index_fits subtype_with_index ends_of_object
   with-index false d h u f = typed-there _ h
-  with-index true d h u f = component-there (subtype_of_entity k d) (or-second (is_unclear_object k d) _ f u)
+  with-index true d h u f =
+      values-typed _ (component-values (subtype_of_entity k d) (or-second (is_unclear_object k d) _ f u))
 
   constant-typed : (u : PredefinedUnit) (x : AdaType) → has_type (typed_constant k u (Some x)) ≡ true
   unfolding typed_constant
@@ -215,7 +221,7 @@ module _ (k : Known) (t : ClearTable k) where
 
   -- ---- names without attribute
 
-  denoted-typed : (has : Bool) (d : Denoted) → denoted_stands k (Some d) ≡ true → may_be_value k has d ≡ true → has_type (typed_denoted k has d) ≡ true
+  pub denoted-typed : (has : Bool) (d : Denoted) → denoted_stands k (Some d) ≡ true → may_be_value k has d ≡ true → has_type (typed_denoted k has d) ≡ true
   unfolding may_be_value typed_denoted
   denoted-typed has d s m = go (denotes_function k d) refl m
     where

@@ -19,6 +19,7 @@ use Rattle.ada_regions.specs.declared.types.Subtype.{Subtype}
 use Rattle.ada_regions.specs.Names.{denoted_at, denoted_by, kind_at}
 use Rattle.ada_regions.specs.Occurrences.{Occurrence, Occurrences, mentions}
 use Rattle.ada_image.specs.BuiltExpressions.{is_given}
+use Rattle.ada_image.specs.BuiltStatements.{choice_value_built}
 use Rattle.ada_image.specs.Layout.{is_thing}
 use Rattle.ada_legality.specs.declared.standing.Known.{Known}
 use Rattle.ada_legality.specs.Types.{has_ranges, is_discrete, is_root_controlled}
@@ -44,10 +45,6 @@ abbrev pub object_clear : Option Subtype → Bool
 object_clear None = false
 object_clear (Some s) = not (is_root_controlled s.of_type)
 
-abbrev pub value_clear : Option Value → Bool
-value_clear None = true
-value_clear (Some v) = is_given v
-
 -- ---- entities, predefined items and array types
 
 -- functions have a type of values as their result
@@ -57,7 +54,7 @@ result_clear (Some s) = not (is_thing s.of_type)
 
 abbrev pub kind_clear : Names → Option EntityKind → Bool
 kind_clear n (Some (entity.Mark s)) = mark_clear s
-kind_clear n (Some (entity.Object s constant x declaration)) = object_clear s && value_clear x
+kind_clear n (Some (entity.Object s constant x declaration)) = object_clear s && choice_value_built x
 kind_clear n (Some (entity.Parameter s mode declaration)) = object_clear s
 kind_clear n (Some (entity.Component s owner declaration)) = object_clear s
 kind_clear n (Some (entity.Subprogram number is_function specified formals unit)) =

@@ -4,4 +4,4 @@
 
 mod clear_laws;
 
-pub use clear_laws::clear_expressions;
+pub use clear_laws::{clear_expressions, units_built};

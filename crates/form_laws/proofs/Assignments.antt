@@ -1,5 +1,5 @@
 -- Assignments that break no rule are built, where the table is clear.
-use Rattle.std.proofs.Common.{◌≡◌, ℕ, Bool, true, false, cond, not, ◌&&◌, ◌||◌, List, [], ◌∷◌, ◌++◌, Option, Some, None, option_map, is_some, refl, sym, ap, ◌∙◌}
+use Rattle.std.proofs.Common.{◌≡◌, ℕ, Bool, true, false, cond, not, ◌&&◌, ◌||◌, List, [], Option, Some, None, option_map, is_some, refl, sym, ap, ◌∙◌}
 use Rattle.std.specs.Prelude.{unwrap_or}
 use Rattle.std.proofs.lemmas.Bool.{false≢true, and_from, and_parts, or_left, or_right}
 use Rattle.ada_tree.specs.declared.expressions.Expression.{Expression}
@@ -27,18 +27,17 @@ use Rattle.ada_regions.specs.Words.{and_then}
 use Rattle.ada_image.specs.BuiltStatements.{assigned_built, assignment_built, source_built}
 use Rattle.ada_image.specs.Layout.{is_kept, is_thing, subtype_is}
 use Rattle.ada_legality.specs.declared.reading.Read.{Read}
-use Rattle.ada_legality.specs.declared.reading.Typed.{Typed}
 use Rattle.ada_legality.specs.declared.reading.Typed.TheVariants as typing
 use Rattle.ada_legality.specs.declared.standing.Known.{Known}
 use Rattle.ada_legality.specs.Attributes.{ends_of_object, is_variable, is_variable_kind, prefix_is_variable}
 use Rattle.ada_legality.specs.CallStatements.{found_if, value_found}
 use Rattle.ada_legality.specs.Faults.{faults_in}
 use Rattle.ada_legality.specs.Places.{place_of}
-use Rattle.ada_legality.specs.ReadExpressions.{index_fits, is_unclear_object, may_be_value, read_expression}
+use Rattle.ada_legality.specs.ReadExpressions.{index_fits, is_unclear_object, may_be_value}
 use Rattle.ada_legality.specs.SimpleStatements.{assignment_found, assignment_judged, is_wrong_target, may_be_target}
 use Rattle.ada_legality.specs.SimpleStatements.{target_judged, type_of_index_of, typed_target}
 use Rattle.ada_legality.specs.Types.{has_type, is_discrete, is_limited, is_root_controlled, typed_by, typed_is}
-use Rattle.ada_legality.specs.Values.{denoted_kind, denotes_function, denotes_object, denotes_value, is_denoted, is_function_kind}
+use Rattle.ada_legality.specs.Values.{denoted_kind, denotes_function, denotes_object, denotes_value, is_function_kind}
 use Rattle.ada_legality.specs.Values.{is_object_kind, is_predefined_constant, subtype_of_entity, subtype_of_loop, subtype_of_object, subtype_with_index, type_of_constant}
 use Rattle.ada_legality.specs.Values.{typed_call, typed_denoted, typed_name, typed_value}
 use Rattle.image_laws.specs.Clear.{has_values, index_clear}

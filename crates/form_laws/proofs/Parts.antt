@@ -1,10 +1,8 @@
 -- Calls, assignments, returns and initial values that break no rule are built, where the table is clear.
-use Rattle.std.proofs.Common.{◌≡◌, ℕ, Bool, true, false, cond, not, ◌&&◌, ◌||◌, List, [], ◌∷◌, ◌++◌, map, Option, Some, None, option_map, is_some, is_none}
-use Rattle.std.proofs.Common.{refl, sym, ap, subst, ◌∙◌}
+use Rattle.std.proofs.Common.{◌≡◌, ℕ, Bool, true, false, cond, ◌&&◌, ◌||◌, List, [], ◌∷◌, ◌++◌, map, Option, Some, None, option_map, is_some}
+use Rattle.std.proofs.Common.{refl, sym, ap, ◌∙◌}
 use Rattle.std.specs.Prelude.{unwrap_or}
-use Rattle.std.specs.List.{flat_map}
-use Rattle.std.proofs.lemmas.Bool.{false≢true, and_from, and_parts, or_right}
-use Rattle.ann_base.specs.Lists.{is_empty}
+use Rattle.std.proofs.lemmas.Bool.{false≢true, and_from, and_parts}
 use Rattle.ann_base.specs.declared.places.Place.{Place}
 use Rattle.profile_image.specs.Words.{same_bool}
 use Rattle.ada_tree.specs.declared.expressions.Argument.{Argument}
@@ -13,70 +11,47 @@ use Rattle.ada_tree.specs.declared.expressions.Expression.TheViews.{out-Expressi
 use Rattle.ada_tree.specs.declared.expressions.ExpressionForm.{ExpressionForm}
 use Rattle.ada_tree.specs.declared.expressions.ExpressionForm.TheVariants as form
 use Rattle.ada_tree.specs.declared.names.Name.{Name}
-use Rattle.ada_tree.specs.declared.statements.Assignment.{Assignment}
 use Rattle.ada_tree.specs.declared.statements.Call.{Call}
 use Rattle.ada_regions.specs.declared.entities.Denoted.{Denoted}
 use Rattle.ada_regions.specs.declared.entities.Denoted.TheVariants as denotes
 use Rattle.ada_regions.specs.declared.entities.EntityKind.{EntityKind}
 use Rattle.ada_regions.specs.declared.entities.EntityKind.TheVariants as entity
-use Rattle.ada_regions.specs.declared.predefined.Predefined.{Predefined}
-use Rattle.ada_regions.specs.declared.predefined.Predefined.TheVariants as items
-use Rattle.ada_regions.specs.declared.predefined.PredefinedUnit.{PredefinedUnit}
-use Rattle.ada_regions.specs.declared.table.Names.{Names}
-use Rattle.ada_regions.specs.declared.types.AdaType.{AdaType}
-use Rattle.ada_regions.specs.declared.types.AdaType.TheVariants as types
-use Rattle.ada_regions.specs.declared.types.Formal.{Formal}
-use Rattle.ada_regions.specs.declared.types.Subtype.{Subtype}
 use Rattle.ada_regions.specs.Completions.{holds_of}
 use Rattle.ada_regions.specs.Names.{denoted_by, entity_of, kind_at}
-use Rattle.ada_regions.specs.NamesInExpressions.{names_in_argument, names_in_arguments, names_in_expression, names_in_form}
+use Rattle.ada_regions.specs.NamesInExpressions.{names_in_arguments, names_in_expression, names_in_form}
 use Rattle.ada_regions.proofs.ExpressionFolds.{expression_tells}
-use Rattle.ada_regions.specs.NamesInStatements.{names_in_assignment, names_in_call}
-use Rattle.ada_regions.specs.Occurrences.{if_there}
 use Rattle.ada_regions.specs.Regions.{is_entry}
-use Rattle.ada_regions.specs.Statics.{subtype_denoted, subtype_of_name}
 use Rattle.ada_regions.specs.Words.{and_then}
-use Rattle.ada_image.specs.BuiltExpressions.{kind_of}
-use Rattle.ada_image.specs.BuiltSequences.{call_if_built, initial_built}
-use Rattle.ada_image.specs.BuiltStatements.{arguments_built, assigned_built, assignment_built, call_built, call_in, call_of_form, call_statement_built}
+use Rattle.ada_image.specs.BuiltSequences.{call_if_built}
+use Rattle.ada_image.specs.BuiltStatements.{call_in, call_of_form, call_statement_built}
 use Rattle.ada_image.specs.BuiltStatements.{source_if_there}
-use Rattle.ada_image.specs.ImageOfCalls.{FunctionCall, call_of_kind}
-use Rattle.ada_image.specs.Layout.{is_kept, is_thing, subtype_is}
-use Rattle.ada_legality.specs.declared.parts.ActualPart.{ActualPart}
-use Rattle.ada_legality.specs.declared.reading.Typed.{Typed}
-use Rattle.ada_legality.specs.declared.reading.Typed.TheVariants as typing
+use Rattle.ada_image.specs.ImageOfCalls.{call_of_kind}
 use Rattle.ada_legality.specs.declared.standing.Known.{Known}
 use Rattle.ada_legality.specs.declared.standing.SubprogramAround.{SubprogramAround}
-use Rattle.ada_legality.specs.Attributes.{ends_of_object, is_variable, is_variable_kind}
 use Rattle.ada_legality.specs.Calls.{formals_denoted, formals_of_kind}
-use Rattle.ada_legality.specs.CallStatements.{call_found, found_if, value_alone_found, value_found}
+use Rattle.ada_legality.specs.CallStatements.{call_found, value_alone_found}
 use Rattle.ada_legality.specs.Faults.{faults_in}
 use Rattle.ada_legality.specs.Findings.{Found}
 use Rattle.ada_legality.specs.Places.{place_of}
 use Rattle.ada_legality.specs.Reading.{Reading, actuals_judged}
-use Rattle.ada_legality.specs.ReadExpressions.{arguments_read, denoted_judged, form_read, index_fits, is_unclear_object, is_value_with, may_be_value}
+use Rattle.ada_legality.specs.ReadExpressions.{arguments_read, denoted_judged, form_read, index_fits, may_be_value}
 use Rattle.ada_legality.specs.ReadExpressions.{name_judged, named_expression, read_expression, same_reading}
-use Rattle.ada_legality.specs.SimpleStatements.{assignment_found, assignment_judged, function_around, is_wrong_target, may_be_target, result_expected}
-use Rattle.ada_legality.specs.SimpleStatements.{return_found, return_judged, stands_in_package, target_judged, type_of_index_of, typed_target}
-use Rattle.ada_legality.specs.Types.{has_no_values, has_type, is_discrete, is_limited, is_root_controlled, typed_by, typed_is}
-use Rattle.ada_legality.specs.Values.{constant_type, denoted_kind, denotes_function, denotes_object, denotes_procedure, denotes_value, is_denoted}
-use Rattle.ada_legality.specs.Values.{is_function_kind, is_kind, is_literal_kind, is_object_kind, is_predefined_constant, is_procedure_kind}
-use Rattle.ada_legality.specs.Values.{subtype_of_entity, subtype_of_loop, subtype_of_object, subtype_with_index, type_of_constant, typed_denoted, typed_name}
-use Rattle.ada_legality.specs.Values.{typed_value, typed_call}
-use Rattle.image_laws.specs.Clear.{arguments_clear, expression_clear, formals_clear, has_values, index_clear}
-use Rattle.image_laws.specs.Laws.{assignment_clear, called_clear, function_clear, has_value_type, is_predefined, return_clear, source_clear, target_index_clear}
+use Rattle.ada_legality.specs.SimpleStatements.{function_around, result_expected}
+use Rattle.ada_legality.specs.SimpleStatements.{return_found, return_judged}
+use Rattle.ada_legality.specs.Values.{denotes_function, denotes_procedure, denotes_value}
+use Rattle.ada_legality.specs.Values.{is_function_kind, is_literal_kind, is_object_kind, is_procedure_kind}
+use Rattle.image_laws.specs.Clear.{arguments_clear, expression_clear}
+use Rattle.image_laws.specs.Laws.{called_clear, function_clear, has_value_type, is_predefined, source_clear}
 use Rattle.image_laws.proofs.Images.Expressions.{argument_of, mapped_form}
-use Rattle.image_laws.proofs.Forms.Actuals.{or-first, or-second}
-use Rattle.image_laws.proofs.Forms.Assignments.{read_assignments_built, read_returns_built}
+use Rattle.image_laws.proofs.Forms.Assignments.{read_returns_built}
 use Rattle.image_laws.proofs.Forms.Calls.{actuals-sound, read_calls_built}
-use Rattle.image_laws.proofs.Forms.Nothing.{none-of, if-none, unless-none}
+use Rattle.image_laws.proofs.Forms.Nothing.{none-of, unless-none}
 use Rattle.image_laws.proofs.Forms.Procedures.{read_procedures_built}
 use Rattle.image_laws.proofs.Forms.Variables.{form-reading}
-use Rattle.form_laws.specs.Tables.{ClearTable, kind_clear, kind_stands, loop_clear, loops_stand, object_clear}
-use Rattle.form_laws.specs.Loops.{call_held, held_if, names_held, value_held}
-use Rattle.form_laws.proofs.Names.{component-values, denoted-typed, ends-known, unclear-object, values-typed}
+use Rattle.form_laws.specs.Tables.{ClearTable, kind_clear, loops_stand}
+use Rattle.form_laws.specs.Loops.{call_held, held_if, value_held}
 use Rattle.form_laws.proofs.Expressions.{expression-known, stands-parts}
-use Rattle.form_laws.proofs.Standing.{Standing, denoted-stands, names-stand, result_held, value-clear}
+use Rattle.form_laws.proofs.Standing.{Standing, names-stand, result_held, value-clear}
 
 -- ---- arguments, and calls of functions that stand alone
 

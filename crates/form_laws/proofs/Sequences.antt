@@ -1,5 +1,5 @@
 -- Declarations, bodies and sequences that break no rule are built, where the table is clear.
-use Rattle.std.proofs.Common.{◌≡◌, ℕ, ◌≤◌, zero, suc, Bool, true, false, cond, not, ◌&&◌, ◌||◌, List, [], ◌∷◌, ◌++◌, Option, Some, None, option_map, is_some}
+use Rattle.std.proofs.Common.{◌≡◌, ℕ, ◌≤◌, zero, suc, true, false, cond, not, List, [], ◌∷◌, Option, Some, None, option_map, is_some}
 use Rattle.std.proofs.Common.{refl, sym, ap, ◌∙◌, arith}
 use Rattle.std.specs.Prelude.{unwrap_or}
 use Rattle.std.specs.List.{list_all}
@@ -15,11 +15,9 @@ use Rattle.ada_tree.specs.declared.declarations.SubprogramSpecification.{Subprog
 use Rattle.ada_tree.specs.declared.declarations.SubtypeIndication.{SubtypeIndication}
 use Rattle.ada_tree.specs.declared.expressions.Expression.{Expression}
 use Rattle.ada_tree.specs.declared.names.Identifier.{Identifier}
-use Rattle.ada_tree.specs.declared.names.Name.{Name}
 use Rattle.ada_tree.specs.declared.statements.Handler.{Handler}
 use Rattle.ada_tree.specs.declared.statements.Sequence.{Sequence}
 use Rattle.ada_tree.specs.declared.statements.Sequence.TheViews.{out-Sequence}
-use Rattle.ada_tree.specs.declared.statements.SequenceParts.{SequenceParts}
 use Rattle.ada_tree.specs.declared.statements.SequenceRole.{SequenceRole}
 use Rattle.ada_tree.specs.declared.statements.SequenceRole.TheVariants as role
 use Rattle.ada_tree.specs.declared.statements.Statement.{Statement}
@@ -34,8 +32,8 @@ use Rattle.ada_regions.specs.Completions.{holds_of}
 use Rattle.ada_regions.specs.Names.{denoted_by, entity_denoted}
 use Rattle.ada_regions.specs.NamesInExpressions.{names_in_expression}
 use Rattle.ada_regions.specs.Words.{and_then}
-use Rattle.ada_image.specs.BuiltSequences.{declaration_built, declarations_built, handlers_built, initial_built, operation_body_built, parts_built, sequence_built}
-use Rattle.ada_image.specs.BuiltSequences.{statement_built, statements_built}
+use Rattle.ada_image.specs.BuiltSequences.{declaration_built, declarations_built, handlers_built, initial_built, operation_body_built, sequence_built}
+use Rattle.ada_image.specs.BuiltSequences.{statement_built}
 use Rattle.ada_image.specs.Layout.{is_thing}
 use Rattle.ada_image.proofs.BuiltSequenceFolds.{sequence_by_parts}
 use Rattle.ada_legality.specs.declared.parts.IndicationUse.TheVariants as uses
@@ -44,13 +42,13 @@ use Rattle.ada_legality.specs.declared.standing.Known.{Known}
 use Rattle.ada_legality.specs.declared.standing.SubprogramAround.{SubprogramAround}
 use Rattle.ada_legality.specs.CallStatements.{all_found, found_if, indication_found, is_fitting_mark, may_be_indicated, type_fits_indication, type_of_mark}
 use Rattle.ada_legality.specs.CallStatements.{parameters_found, value_alone_found}
-use Rattle.ada_legality.specs.Declarations.{declaration_found, entry_body_found, handlers_found, object_found, operation_body_found, parts_found}
+use Rattle.ada_legality.specs.Declarations.{declaration_found, entry_body_found, object_found, operation_body_found, parts_found}
 use Rattle.ada_legality.specs.Declarations.{protected_body_found, sequence_found, specification_found, subprogram_body_found, subprogram_here, task_body_found}
-use Rattle.ada_legality.specs.Declarations.{barrier_found, entry_body_judged, unit_here, unit_of_operation}
+use Rattle.ada_legality.specs.Declarations.{barrier_found, entry_body_judged, unit_here}
 use Rattle.ada_legality.specs.Faults.{faults_in}
 use Rattle.ada_legality.specs.Places.{place_of}
 use Rattle.ada_legality.specs.ReadExpressions.{is_unclear_mark}
-use Rattle.ada_legality.specs.SimpleStatements.{result_expected, with_around}
+use Rattle.ada_legality.specs.SimpleStatements.{with_around}
 use Rattle.ada_legality.specs.Statements.{handler_found, statement_found}
 use Rattle.ada_legality.specs.Types.{is_scalar}
 use Rattle.ada_legality.specs.Values.{denoted_kind, is_kind}
@@ -59,7 +57,7 @@ use Rattle.image_laws.specs.Laws.{has_value_type}
 use Rattle.image_laws.proofs.Forms.Actuals.{or-second}
 use Rattle.image_laws.proofs.Forms.Nothing.{none-of, unless-none}
 use Rattle.form_laws.specs.Tables.{ClearTable}
-use Rattle.form_laws.specs.Loops.{all_held, declaration_held, declarations_held, handler_held, held_if, operation_body_held, parts_held, sequence_held}
+use Rattle.form_laws.specs.Loops.{all_held, declaration_held, declarations_held, handler_held, held_if, operation_body_held, sequence_held}
 use Rattle.form_laws.specs.Loops.{statement_held, value_held}
 use Rattle.form_laws.proofs.Names.{unclear-mark}
 use Rattle.form_laws.proofs.Parts.{initial-known}

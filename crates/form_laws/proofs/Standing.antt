@@ -1,7 +1,7 @@
 -- What is known where a construct of a source stands: its table is clear, each loop around it gives its parameter a type, and the
 -- function around it has a type of values as its result.
-use Rattle.std.proofs.Common.{◌≡◌, ℕ, Bool, true, false, cond, not, ◌&&◌, ◌||◌, List, [], ◌∷◌, Option, Some, None, is_some, eqb, refl, sym, ap, ◌∙◌, eq-eqb, eqb-true}
-use Rattle.std.specs.List.{find, list_any, list_all}
+use Rattle.std.proofs.Common.{◌≡◌, ℕ, Bool, true, false, cond, List, [], ◌∷◌, Option, Some, None, is_some, eqb, refl, sym, ap, ◌∙◌, eq-eqb, eqb-true}
+use Rattle.std.specs.List.{find, list_any}
 use Rattle.std.specs.Option.{option_or}
 use Rattle.std.specs.Prelude.{⊤, unwrap_or, ℤ, pos, leb, neg_ℤ, ◌+◌}
 use Rattle.std.proofs.lemmas.Bool.{false≢true, and_from, and_parts}
@@ -18,7 +18,6 @@ use Rattle.ada_tree.specs.declared.expressions.ExpressionForm.TheVariants as for
 use Rattle.ada_tree.specs.declared.names.Name.{Name}
 use Rattle.ada_tree.specs.declared.operators.Attribute.{Attribute}
 use Rattle.ada_tree.specs.declared.operators.Attribute.TheVariants as attribute
-use Rattle.ada_tree.specs.declared.operators.Sign.{Sign}
 use Rattle.ada_tree.specs.declared.operators.Sign.TheVariants as sign
 use Rattle.ada_tree.specs.declared.statements.Iteration.{Iteration}
 use Rattle.ada_tree.specs.declared.statements.Iteration.TheVariants as iteration
@@ -26,16 +25,14 @@ use Rattle.ada_regions.specs.declared.entities.Denoted.{Denoted}
 use Rattle.ada_regions.specs.declared.entities.Denoted.TheVariants as denotes
 use Rattle.ada_regions.specs.declared.entities.EntityKind.{EntityKind}
 use Rattle.ada_regions.specs.declared.entities.EntityKind.TheVariants as entity
-use Rattle.ada_regions.specs.declared.predefined.Predefined.{Predefined}
 use Rattle.ada_regions.specs.declared.predefined.Predefined.TheVariants as items
-use Rattle.ada_regions.specs.declared.table.Names.{Names}
 use Rattle.ada_regions.specs.declared.types.AdaType.{AdaType}
 use Rattle.ada_regions.specs.declared.types.AdaType.TheVariants as types
 use Rattle.ada_regions.specs.declared.types.Subtype.{Subtype}
 use Rattle.ada_regions.specs.Names.{denoted_by, entity_denoted, kind_at, last_part}
 use Rattle.ada_regions.specs.NamesInExpressions.{names_in_expression}
 use Rattle.ada_regions.specs.Occurrences.{Occurrence, Occurrences, mentions}
-use Rattle.ada_regions.specs.Statics.{attribute_value, high_of, literal_of, low_of, range_named, signed_literal, static_form, static_literal, static_name}
+use Rattle.ada_regions.specs.Statics.{attribute_value, high_of, literal_of, low_of, range_named, static_form, static_literal, static_name}
 use Rattle.ada_regions.specs.Statics.{in_duration, in_integer, micros_of, negative_in_duration, negative_in_integer}
 use Rattle.ada_regions.specs.declared.predefined.TheConstants.{LAST_DURATION, LAST_INTEGER}
 use Rattle.ada_lex.specs.Meaning.{decimals_of, whole_of}
@@ -52,7 +49,7 @@ use Rattle.ada_legality.specs.declared.standing.LoopParameter.{LoopParameter}
 use Rattle.ada_legality.specs.declared.standing.SubprogramAround.{SubprogramAround}
 use Rattle.ada_legality.specs.Faults.{faults_in}
 use Rattle.ada_legality.specs.ReadExpressions.{read_expression}
-use Rattle.ada_legality.specs.SimpleStatements.{function_around, loop_parameter, range_if_static, result_expected, type_between, with_around, with_iteration}
+use Rattle.ada_legality.specs.SimpleStatements.{function_around, loop_parameter, result_expected, type_between, with_around, with_iteration}
 use Rattle.ada_legality.specs.Types.{discrete_if, is_discrete, type_of_bounds, type_of_low}
 use Rattle.ada_legality.specs.Values.{subtype_of_loop}
 use Rattle.image_laws.specs.Clear.{expression_clear}

@@ -1,6 +1,5 @@
 -- Statements that break no rule are built, where the table is clear, given the sequences in them that are.
-use Rattle.std.proofs.Common.{◌≡◌, ℕ, ◌≤◌, suc, Bool, true, false, ◌&&◌, List, [], ◌∷◌, ◌++◌, Option, Some, None, refl, sym, subst, arith}
-use Rattle.std.specs.List.{list_all}
+use Rattle.std.proofs.Common.{◌≡◌, ℕ, ◌≤◌, Bool, true, false, ◌&&◌, List, [], ◌∷◌, Option, Some, None, refl, sym, subst, arith}
 use Rattle.std.proofs.lemmas.Bool.{and_from, and_parts}
 use Rattle.ann_base.specs.declared.places.Place.{Place}
 use Rattle.ada_tree.specs.declared.statements.SequenceRole.{SequenceRole}
@@ -25,21 +24,19 @@ use Rattle.ada_tree.specs.ShapeStatements.{accept_body_fits, accept_fits, accept
 use Rattle.ada_tree.specs.ShapeStatements.{if_fits, loop_fits, parts_fit, select_alternative_fits, select_form_fits, statements_fit}
 use Rattle.ada_tree.specs.Shape.{sequence_fits}
 use Rattle.ada_regions.specs.Names.{entity_denoted, kind_at}
-use Rattle.ada_regions.specs.Words.{all_of, and_then}
+use Rattle.ada_regions.specs.Words.{and_then}
 use Rattle.ada_image.specs.BuiltSequences.{accept_body_built, alternative_built, case_alternative_built, elsif_built, select_alternative_built, select_built}
 use Rattle.ada_image.specs.BuiltSequences.{sequence_built, sequence_if_built, statement_built}
 use Rattle.ada_legality.specs.declared.standing.Around.TheVariants as around
 use Rattle.ada_legality.specs.declared.standing.Known.{Known}
 use Rattle.ada_legality.specs.CallStatements.{found_if, parameters_found}
 use Rattle.ada_legality.specs.Profiles.{accept_conforms}
-use Rattle.ada_legality.specs.Choices.{choices_read, type_of_selector}
 use Rattle.ada_legality.specs.Faults.{faults_in}
-use Rattle.ada_legality.specs.ReadExpressions.{read_expression}
 use Rattle.ada_legality.specs.Places.{place_of_loop}
 use Rattle.ada_legality.specs.SimpleStatements.{exit_found, with_around, with_iteration}
 use Rattle.ada_legality.specs.Statements.{accept_judged}
 use Rattle.ada_legality.specs.Statements.{accept_body_found, accept_found, alternative_found, asynchronous_select_found, case_alternative_found, case_found}
-use Rattle.ada_legality.specs.Statements.{choices_of_case, conditional_call_found, elsif_found, entity_of_label, if_found, loop_found, select_alternative_found}
+use Rattle.ada_legality.specs.Statements.{conditional_call_found, elsif_found, entity_of_label, if_found, loop_found, select_alternative_found}
 use Rattle.ada_legality.specs.Statements.{select_form_found, select_found, selective_accept_found, statement_found, timed_call_found}
 use Rattle.ada_legality.specs.Declarations.{sequence_found}
 use Rattle.image_laws.proofs.Forms.Nothing.{none-of}

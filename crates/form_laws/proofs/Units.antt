@@ -1,5 +1,5 @@
 -- A source that breaks no rule is built, where its table is clear.
-use Rattle.std.proofs.Common.{◌≡◌, ℕ, ◌≤◌, suc, Bool, true, false, cond, ◌&&◌, List, [], ◌∷◌, ◌++◌, Option, Some, None, refl, sym, ap, ◌∙◌}
+use Rattle.std.proofs.Common.{◌≡◌, ℕ, ◌≤◌, suc, Bool, true, false, cond, List, [], ◌∷◌, ◌++◌, Option, Some, None, refl}
 use Rattle.std.specs.Prelude.{unwrap_or}
 use Rattle.std.specs.List.{list_all}
 use Rattle.std.proofs.lemmas.Bool.{false≢true, and_from, and_parts}
@@ -15,22 +15,20 @@ use Rattle.ada_tree.specs.declared.units.Unit.{Unit as Tree}
 use Rattle.ada_tree.specs.declared.units.TheConstants.{MAX_NESTING}
 use Rattle.ada_tree.specs.ShapeExpressions.{optional_fits}
 use Rattle.ada_tree.specs.Shape.{declarations_fit, is_shaped, library_package_fits, main_fits, package_fits, package_parts_fit, package_statements_fit}
-use Rattle.ada_tree.specs.Shape.{sequence_fits, unit_fits}
+use Rattle.ada_tree.specs.Shape.{unit_fits}
 use Rattle.ada_regions.specs.NamesInUnits.{names_in_unit}
 use Rattle.ada_regions.specs.Numbered.{names_of}
-use Rattle.ada_image.specs.BuiltExpressions.{Built}
 use Rattle.ada_image.specs.BuiltSequences.{declaration_built, declarations_built, sequence_built, sequence_if_built}
-use Rattle.ada_image.specs.BuiltUnits.{package_built, packages_built, unit_built}
+use Rattle.ada_image.specs.BuiltUnits.{package_built, unit_built}
 use Rattle.ada_legality.specs.declared.faults.Fault.{Fault}
 use Rattle.ada_legality.specs.declared.standing.Around.TheVariants as around
 use Rattle.ada_legality.specs.declared.standing.Known.{Known}
-use Rattle.ada_legality.specs.CallStatements.{all_found, found_if}
-use Rattle.ada_legality.specs.Declarations.{declaration_found, sequence_found}
+use Rattle.ada_legality.specs.CallStatements.{found_if}
+use Rattle.ada_legality.specs.Declarations.{sequence_found}
 use Rattle.ada_legality.specs.Faults.{comes_before, fault_put, faults_in, faults_of, faults_where, first_fault_of, found_of, in_order_of_text, same_fault}
 use Rattle.ada_legality.specs.Faults.{walked}
-use Rattle.ada_legality.specs.InForce.{in_force_by}
 use Rattle.ada_legality.specs.SimpleStatements.{function_around, with_around}
-use Rattle.ada_legality.specs.Units.{known_of, library_package_found, main_found, main_priority_noted, package_body_found, package_declaration_found}
+use Rattle.ada_legality.specs.Units.{known_of, library_package_found, main_found, package_body_found, package_declaration_found}
 use Rattle.ada_legality.specs.Units.{package_found, part_found, units_found}
 use Rattle.image_laws.proofs.Forms.Nothing.{none-of}
 use Rattle.form_laws.specs.Tables.{ClearTable}

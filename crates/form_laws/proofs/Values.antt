@@ -1,5 +1,5 @@
 -- Conditions, delays, loops and choices that break no rule are built, where the table is clear; and lists of what is.
-use Rattle.std.proofs.Common.{◌≡◌, ℕ, ◌≤◌, zero, suc, Bool, true, false, not, ◌&&◌, List, [], ◌∷◌, ◌++◌, Option, Some, None, refl, sym, ap, ◌∙◌, arith}
+use Rattle.std.proofs.Common.{◌≡◌, ℕ, ◌≤◌, zero, suc, Bool, true, List, [], ◌∷◌, ◌++◌, Option, Some, None, refl, arith}
 use Rattle.std.specs.List.{flat_map, list_all}
 use Rattle.std.proofs.lemmas.Bool.{and_from, and_parts}
 use Rattle.ann_base.specs.declared.places.Place.{Place}
@@ -15,7 +15,7 @@ use Rattle.ada_tree.specs.declared.statements.Iteration.{Iteration}
 use Rattle.ada_tree.specs.declared.statements.Iteration.TheVariants as iteration
 use Rattle.ada_tree.specs.ShapeExpressions.{optional_fits, within}
 use Rattle.ada_image.specs.BuiltExpressions.{Built, expression_built}
-use Rattle.ada_image.specs.BuiltSequences.{initial_built, sequence_if_built}
+use Rattle.ada_image.specs.BuiltSequences.{sequence_if_built}
 use Rattle.ada_image.specs.BuiltStatements.{call_statement_built, choice_built, choices_built, iteration_built, trigger_built, value_if_there}
 use Rattle.ada_image.specs.ImageOfStatements.{guard_of}
 use Rattle.ada_legality.specs.declared.standing.Known.{Known}
@@ -29,7 +29,6 @@ use Rattle.ada_legality.specs.SimpleStatements.{delay_found, entry_call_found, g
 use Rattle.image_laws.specs.Laws.{iteration_clear}
 use Rattle.image_laws.proofs.Forms.Nothing.{none-of}
 use Rattle.image_laws.proofs.Forms.StatementValues.{read_conditions_built, read_delays_built, read_iterations_built, read_selectors_built}
-use Rattle.form_laws.specs.Tables.{ClearTable}
 use Rattle.form_laws.specs.Loops.{Held, all_held, call_held, guard_held, held_if, iteration_held, trigger_held, value_held}
 use Rattle.form_laws.proofs.Parts.{call-sound}
 use Rattle.form_laws.proofs.Standing.{Standing, static-given, value-clear}

@@ -1,7 +1,7 @@
 -- Names of loop parameters: each stands in its loop (5.5). Bodies, statements and values of the text, with the entities
 -- of the loop parameters around them.
 use Rattle.std.specs.List.{list_all, list_any}
-use Rattle.std.specs.Prelude.{◌≡◌, ℕ, zero, suc, eqb, Bool, true, false, ◌&&◌, List, [], ◌∷◌, ◌++◌, Option, Some, None, unwrap_or}
+use Rattle.std.specs.Prelude.{◌≡◌, ℕ, zero, suc, eqb, Bool, true, ◌&&◌, List, [], ◌∷◌, Option, Some, None}
 use Rattle.ada_tree.specs.declared.declarations.Declaration.{Declaration}
 use Rattle.ada_tree.specs.declared.declarations.Declaration.TheVariants as declaration
 use Rattle.ada_tree.specs.declared.declarations.OperationBody.{OperationBody}

@@ -4,7 +4,6 @@
 use Rattle.std.specs.List.{list_all}
 use Rattle.std.specs.Prelude.{◌≡◌, ℕ, slice_get, Bool, true, false, not, ◌&&◌, ◌||◌, Option, Some, None}
 use Rattle.ann_base.specs.declared.places.Place.{Place}
-use Rattle.profile_image.specs.declared.values.Value.{Value}
 use Rattle.profile_image.specs.declared.values.Constraint.{Constraint}
 use Rattle.profile_image.specs.declared.values.Constraint.TheVariants as constraint
 use Rattle.ada_regions.specs.declared.entities.Denoted.{Denoted}

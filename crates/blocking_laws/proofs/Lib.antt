@@ -4,6 +4,8 @@ pub mod CalmLemmas
 pub mod ChoiceLemmas
 pub mod CountedLines
 pub mod DatedLemmas
+pub mod EachLine
+pub mod EffectWorlds
 pub mod EnterLaws
 pub mod EnterLemmas
 pub mod EnterRuns
@@ -19,12 +21,17 @@ pub mod LastTies
 pub mod LowLemmas
 pub mod NamedMoves
 pub mod ObjectNumbers
+pub mod OpenLive
 pub mod OpenTold
 pub mod ProtocolLemmas
 pub mod QueueLemmas
 pub mod RestLemmas
 pub mod SettledLemmas
 pub mod StepLemmas
+pub mod StillLive
+pub mod StopLemmas
+pub mod StopLines
+pub mod StopRuns
 pub mod TaskNumbers
 pub mod TickLemmas
 pub mod ToldLines

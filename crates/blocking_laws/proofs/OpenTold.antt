@@ -62,7 +62,7 @@ AllBelow-append : (d : ℕ) (xs ys : List Event) → AllBelow d xs → AllBelow 
 AllBelow-append d [] ys a b = b
 AllBelow-append d (x ∷ xs) ys a b = (a.0, AllBelow-append d xs ys a.1 b)
 
-abbrev Fresh : ℕ → List shown.Action → Type 0
+abbrev pub Fresh : ℕ → List shown.Action → Type 0
 Fresh d s = (k : TaskNo) → d ≤ k.0 → own_of (who.Task k) s ≡ []
 
 fresh-higher : (d e : ℕ) (s : List shown.Action) → d ≤ e → Fresh d s → Fresh e s
@@ -71,7 +71,7 @@ fresh-higher d e s more fresh k high = fresh k (omega (arith, more, high))
 none-cons : (x : ℕ) (xs : List ℕ) → x ∷ xs ≡ [] → ⊥
 none-cons x xs e = cc
 
-rest-none : (c : Bool) (x : ℕ) (xs : List ℕ) → cond c (x ∷ xs) xs ≡ [] → (c ≡ false) × (xs ≡ [])
+pub rest-none : (c : Bool) (x : ℕ) (xs : List ℕ) → cond c (x ∷ xs) xs ≡ [] → (c ≡ false) × (xs ≡ [])
 rest-none true x xs e = absurd (none-cons x xs e)
 rest-none false x xs e = (refl, e)
 
@@ -81,7 +81,7 @@ closed-none-step n name o a actions true parts left = parts.1
 closed-none-step n name o a actions false parts left =
     ap (λ t. cond t (a.object ∷ own_of n (closed o name actions)) (own_of n (closed o name actions))) parts.0 ∙ left
 
-closed-none : (n name : Who) (o : ℕ) (actions : List shown.Action) → own_of n actions ≡ [] → own_of n (closed o name actions) ≡ []
+pub closed-none : (n name : Who) (o : ℕ) (actions : List shown.Action) → own_of n actions ≡ [] → own_of n (closed o name actions) ≡ []
 closed-none n name o [] e = refl
 closed-none n name o (a ∷ actions) e =
     let parts = rest-none (who_eq n a.who) a.object (own_of n actions) e in
@@ -98,7 +98,7 @@ fresh-event d s (written.Enter who.Agent object mode) below fresh k high = fresh
 fresh-event d s (written.Exit name object) below fresh k high = closed-none (who.Task k) name object.0 s (fresh k high)
 fresh-event d s _ below fresh k high = fresh k high
 
-fresh-behind : (d : ℕ) (s : List shown.Action) (xs : List Event) → AllBelow d xs → Fresh d s → Fresh d (actions_behind s xs)
+pub fresh-behind : (d : ℕ) (s : List shown.Action) (xs : List Event) → AllBelow d xs → Fresh d s → Fresh d (actions_behind s xs)
 fresh-behind d s [] h fresh = fresh
 fresh-behind d s (x ∷ xs) h fresh = fresh-behind d (actions_after s x) xs h.1 (fresh-event d s x h.0 fresh)
 
@@ -186,7 +186,7 @@ module _ (p : Image) (script : List (ℤ × Item)) (bound : ℕ) where
       ((and_parts (all_adjacent (λ a b. ltb (number_in a.who) (number_in b.who)) w.tasks) (list_all (λ t. ltb (number_in t.who) w.drawn.tasks) w.tasks)
       (reached_tasks p script bound w reached)).1) e
 
-  over-below : (w : World) → Comes p script bound w → (name : Who) → is_over (task_of w name).ticks_left ≡ true → IsBelow w.drawn.tasks name
+  pub over-below : (w : World) → Comes p script bound w → (name : Who) → is_over (task_of w name).ticks_left ≡ true → IsBelow w.drawn.tasks name
   over-below w comes (who.Task k) over = (reached-drawn w (before w comes) k (task_of w (who.Task k)) (task-there (task_at w (who.Task k)) over)).0
   over-below w comes who.Agent over = tt
 
@@ -195,7 +195,7 @@ module _ (p : Image) (script : List (ℤ × Item)) (bound : ℕ) where
   one-name : (a b : Who) → Some a ≡ Some b → a ≡ b
   one-name a b e = cc
 
-  effect-below : (d : ℕ) (w : World) (name : Who) → IsBelow d name → AllBelow d (settles p (effect p name) w).1
+  pub effect-below : (d : ℕ) (w : World) (name : Who) → IsBelow d name → AllBelow d (settles p (effect p name) w).1
   effect-below d w name below =
       let lines = (settles p (effect p name) w).1 in
       all_own-below d (Some name) lines (λ n e. subst (IsBelow d) (one-name name n e) below) (follow-own (Some name) tt lines (effect_own name p w).follow)
@@ -220,11 +220,11 @@ module _ (p : Image) (script : List (ℤ × Item)) (bound : ℕ) where
 
   -- ---- a run
 
-  comes-of : (lines : List Event) (w : World) → Tells p script bound lines w → Comes p script bound w
+  pub comes-of : (lines : List Event) (w : World) → Tells p script bound lines w → Comes p script bound w
   comes-of _ _ told_first = opened
   comes-of _ _ (told_on lines w told going) = ticked w (comes-of lines w told) going
 
-  abbrev IsTied : List Event → World → Type 0
+  abbrev pub IsTied : List Event → World → Type 0
   IsTied lines w = Tied w.drawn.tasks (actions_behind [] lines) w × Fresh w.drawn.tasks (actions_behind [] lines)
 
   behind-instant : (lines : List Event) (w : World) → Comes p script bound w → IsTied lines w → IsTied (lines ++ (instant p w).1) (instant p w).0
@@ -247,7 +247,7 @@ module _ (p : Image) (script : List (ℤ × Item)) (bound : ℕ) where
       subst (λ q. Tied t.0.drawn.tasks q t.0 × Fresh t.0.drawn.tasks q) (sym (seen_behind-append actions_after is_last_exit [] lines t.1))
       (raised d (actions_behind s t.1) t.0 led.1 fresh, fresh-higher d t.0.drawn.tasks (actions_behind s t.1) led.1.0 fresh)
 
-  told-tied : (lines : List Event) (w : World) → Tells p script bound lines w → IsTied lines w
+  pub told-tied : (lines : List Event) (w : World) → Tells p script bound lines w → IsTied lines w
   told-tied _ _ told_first =
       let o = opening p script in
       let d = (blank_world p script).drawn.tasks in

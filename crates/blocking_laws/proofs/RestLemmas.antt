@@ -13,6 +13,7 @@ use Rattle.trace_text.specs.Laws.{Levels, actions_after, bases_after, ceilings_a
 use Rattle.trace_text.specs.Queue.{AtEachLine, TraceLine, head_of, queue_after, runner_after, seen_from, somebody_eq, who_of}
 use Rattle.profile_machine.specs.Run.{run_of}
 use Rattle.blocking_laws.specs.DatedLines.{places_dated, shows_nothing}
+use Rattle.blocking_laws.specs.FreeLines.{blocks_free}
 use Rattle.blocking_laws.specs.LastExits.{is_last_exit}
 use Rattle.blocking_laws.specs.LowLines.{enters_low}
 use Rattle.blocking_laws.specs.MovingLaws.{Moving, comes_rightly, is_agent_level, is_dated_rightly, is_known, is_moved_rightly}
@@ -28,6 +29,7 @@ use Rattle.blocking_laws.proofs.HeadLemmas.{runs_tell_own_lines}
 use Rattle.blocking_laws.proofs.LastRuns.{runs_exit_last}
 use Rattle.blocking_laws.proofs.LowLemmas.{runs_enter_low}
 use Rattle.blocking_laws.proofs.ObjectNumbers.{runs_number_objects}
+use Rattle.blocking_laws.proofs.StopLemmas.{runs_block_free}
 use Rattle.blocking_laws.proofs.TaskNumbers.{runs_number_tasks, runs_place_known}
 use Rattle.blocking_laws.proofs.TickLemmas.{seen_part}
 
@@ -47,6 +49,7 @@ record Parts (m : Moving) (event : Event) : Type 0 where
   exit : is_last_exit m.past.actions event ≡ true
   task : is_task_new m.past.bases event ≡ true
   known : places_known m.past.bases event ≡ true
+  block : blocks_free m.past.actions event ≡ true
   rest : is_rest_right m event ≡ true
 
 comes_by_parts : (m : Moving) (who : Who) (object : ObjectNo) → somebody_eq m.past.runner (Some who) ≡ true
@@ -70,7 +73,7 @@ moved_by_parts m (line.Ready who level Tail deadline) h =
     and_from (is_known who m && is_dated_rightly who deadline && is_agent_level who level m) (may_be_behind who m)
     (and_from (is_known who m && is_dated_rightly who deadline) (is_agent_level who level m)
     (and_from (is_known who m) (is_dated_rightly who deadline) (known_by_part who m h.known) h.dated) rest.0) rest.1
-moved_by_parts m (line.Block who why) h = h.rest
+moved_by_parts m (line.Block who why) h = h.block
 moved_by_parts m (line.Done task) h = h.rest
 moved_by_parts m (line.Enter (subject.Task task) object mode) h = comes_by_parts m (subject.Task task) object h.own h.first h.low
 moved_by_parts m (line.Enter subject.Agent object mode) h = comes_by_parts m subject.Agent object h.own h.first h.rest
@@ -111,6 +114,8 @@ rest_moves_rightly p low script bound rest =
             at_part bases_after [] (λ (m : Moving). m.past.bases) is_task_new lines (λ m event. refl) refl (runs_number_tasks p script bound) front x back e;
         known =
             at_part bases_after [] (λ (m : Moving). m.past.bases) places_known lines (λ m event. refl) refl (runs_place_known p script bound) front x back e;
+        block =
+            at_part actions_after [] (λ (m : Moving). m.past.actions) blocks_free lines (λ m event. refl) refl (runs_block_free p script bound) front x back e;
         rest = rest.moved front x back e;
       });
       holders = rest.holders;

@@ -1,6 +1,7 @@
 pub mod BlockingLaws
 pub mod DatedLines
 pub mod Examples
+pub mod FreeLines
 pub mod FreshLines
 pub mod Holds
 pub mod LastExits

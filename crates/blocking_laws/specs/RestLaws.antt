@@ -1,7 +1,7 @@
 -- A run moves everybody rightly if it keeps what is not yet proved of every run: the law without what is.
 use Rattle.std.specs.Prelude.{ℕ, ℤ, Bool, true, not, ◌&&◌, IsTrue, List}
 use Rattle.trace_text.specs.declared.events.Event.{Event}
-use Rattle.trace_text.specs.declared.events.Event.TheVariants.{Ready, Block, Done, Enter, Held}
+use Rattle.trace_text.specs.declared.events.Event.TheVariants.{Ready, Done, Enter, Held}
 use Rattle.trace_text.specs.declared.events.QueueEnd.TheVariants.{Tail}
 use Rattle.trace_text.specs.declared.events.Who.TheVariants as subject
 use Rattle.trace_text.specs.Laws.{level_of}
@@ -17,7 +17,6 @@ use Rattle.blocking_laws.specs.Stretches.{has_open}
 
 abbrev pub is_rest_right : Moving → Event → Bool
 is_rest_right moving (Ready who level Tail deadline) = is_agent_level who level moving && may_be_behind who moving
-is_rest_right moving (Block who why) = not (has_open who moving.past.actions)
 is_rest_right moving (Done task) = not (has_open (subject.Task task) moving.past.actions)
 is_rest_right moving (Enter subject.Agent object mode) =
     is_within (own_level subject.Agent moving.past.bases moving.agent) (level_of object.0 moving.ceilings)

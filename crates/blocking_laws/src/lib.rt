@@ -16,6 +16,7 @@ pub use runs::{
     actions_end_in_reverse_order, numbers_of_objects_are_new, numbers_of_tasks_are_new,
     only_tasks_have_deadlines, only_who_runs_goes_before, open_actions_are_those_of_marks,
     right_moves_bound_blocking, tasks_enter_at_their_base, the_rest_moves_rightly,
-    who_enters_has_not_moved, who_enters_is_first, who_is_placed_is_known,
+    who_blocks_has_no_action_open, who_enters_has_not_moved, who_enters_is_first,
+    who_is_placed_is_known,
 };
 pub use stretches::{examples_are_told, plant_has_a_stretch, tests_tell};

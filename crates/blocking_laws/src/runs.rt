@@ -1,6 +1,7 @@
 //! Blocking in every run: laws of the profile machine's definitions alone, which hold of every
 //! program, script and bound. Each is the contract of a function that does nothing.
 ghost use Rattle.blocking_laws.specs.DatedLines.{RunsDateRightly};
+ghost use Rattle.blocking_laws.specs.FreeLines.{RunsBlockFree};
 ghost use Rattle.blocking_laws.specs.FreshLines.{RunsEnterFresh};
 ghost use Rattle.blocking_laws.specs.LastExits.{RunsExitLast};
 ghost use Rattle.blocking_laws.specs.LowLines.{RunsEnterLow};
@@ -93,4 +94,9 @@ pub fn actions_end_in_reverse_order()
 /// there and of the agent, before each instant and behind it (9.5.1).
 pub fn open_actions_are_those_of_marks()
     ensures { OpenActionsAreTold }
+{}
+
+/// In every run whoever blocks has no protected action open: it waits inside no object (9.5.1, D.3).
+pub fn who_blocks_has_no_action_open()
+    ensures { RunsBlockFree }
 {}

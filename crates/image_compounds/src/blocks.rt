@@ -1,13 +1,11 @@
 //! Blocks, exception handlers and accept statements (ISO/IEC 8652:2012, 5.6, 11.2, 9.5.2).
 ghost use Rattle.ada_image.specs.Made.{Made};
-ghost use Rattle.ada_image.specs.ImageOfStatements.{block_put, handlers_put};
-ghost use Rattle.ada_image.specs.ImageOfStatements.{accept_body_put, accept_put};
-ghost use Rattle.image_compounds.specs.Parts.{handler_made};
+ghost use Rattle.ada_image.specs.ImageOfStatements.{accept_put, block_put, handlers_put};
 
 use crate::branches::inside;
 use crate::making::MakeSequence;
 use ada_image::{Lists, SequencePlace, Within};
-use ada_tree::{Accept, AcceptBody, Block, Handler};
+use ada_tree::{Accept, Block, Handler};
 use ann_base::NoMemory;
 use image_layout::{in_handler, reserved, the_action};
 use image_parts::{in_statement_scope, scope_action};
@@ -37,26 +35,6 @@ pub fn block_put<W, Q: MakeSequence<W>>(
     scope_action(lists, scope, first, s, form, next)
 }
 
-/// An exception handler (11.2).
-#[tactic(auto, unfolding(crate::specs::Parts::handler_made))]
-fn handler_made<W, Q: MakeSequence<W>>(
-    alloc: Global,
-    lists: &mut Lists,
-    within: &Within<'_, '_>,
-    handler: &Handler<Q>,
-    next: Option<StatementNo>,
-) -> Result<ExceptionHandler, NoMemory>
-    ensures { Made (handler_made Q.making within.now handler.now next) lists.old lists.new result }
-{
-    let choices = handled_made(alloc, within, &handler.exceptions)?;
-    let inner = in_handler(within);
-    let first = inside(alloc, lists, &handler.statements, &inner, next)?;
-    Ok(ExceptionHandler {
-        choices,
-        first: the_action(first),
-    })
-}
-
 /// The handlers of a sequence, in the order of the text (11.2).
 #[tactic(auto, unfolding(ada_image::specs::ImageOfStatements::handlers_put))]
 pub fn handlers_put<W, Q: MakeSequence<W>>(
@@ -70,38 +48,19 @@ pub fn handlers_put<W, Q: MakeSequence<W>>(
 {
     let mut made = ImageList::new(alloc);
     for handler in handlers {
-        let one = handler_made(alloc, lists, within, handler, next)?;
-        made.push(one)?;
+        let choices = handled_made(alloc, within, &handler.exceptions)?;
+        let inner = in_handler(within);
+        let first = inside(alloc, lists, &handler.statements, &inner, next)?;
+        made.push(ExceptionHandler {
+            choices,
+            first: the_action(first),
+        })?;
     }
     Ok(made)
 }
 
-/// The statements of an accept; without any nothing stands in its scope.
-#[tactic(auto, unfolding(ada_image::specs::ImageOfStatements::accept_body_put))]
-fn accept_body_put<W, Q: MakeSequence<W>>(
-    alloc: Global,
-    lists: &mut Lists,
-    within: &Within<'_, '_>,
-    s: StatementNo,
-    scope: u32,
-    body: &Option<AcceptBody<Q>>,
-) -> Result<Option<StatementNo>, NoMemory>
-    ensures { Made (accept_body_put Q.making within.now s scope body.now) lists.old lists.new
-        result }
-{
-    match body {
-        None => Ok(None),
-        Some(body) => {
-            let inner = in_statement_scope(within, scope, s);
-            let place = SequencePlace::BehindDeclarations(None);
-            body.sequence
-                .sequence_put(alloc, lists, place, &inner, None)
-        }
-    }
-}
-
-/// An accept statement (9.5.2).
-#[tactic(auto, unfolding(ada_image::specs::ImageOfStatements::accept_put))]
+/// An accept statement (9.5.2). Without statements of its own nothing stands in its scope.
+#[tactic(auto, unfolding(ada_image::specs::ImageOfStatements::accept_put, ada_image::specs::ImageOfStatements::accept_body_put))]
 pub fn accept_put<W, Q: MakeSequence<W>>(
     alloc: Global,
     lists: &mut Lists,
@@ -114,7 +73,15 @@ pub fn accept_put<W, Q: MakeSequence<W>>(
     let scope = scope_at(within.names.get(), accept.place)?;
     let entry = entry_at(within, accept.entry.place);
     let s = reserved(lists)?;
-    let first = accept_body_put(alloc, lists, within, s, scope, &accept.body)?;
+    let first = match &accept.body {
+        None => None,
+        Some(body) => {
+            let place = SequencePlace::BehindDeclarations(None);
+            let inner = in_statement_scope(within, scope, s);
+            body.sequence
+                .sequence_put(alloc, lists, place, &inner, None)?
+        }
+    };
     let form = StatementForm::Accept {
         entry,
         scope: ScopeNo(scope),

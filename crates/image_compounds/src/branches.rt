@@ -2,13 +2,13 @@
 //! 5.4).
 ghost use Rattle.std.specs.Prelude.{◌∷◌};
 ghost use Rattle.ada_image.specs.Made.{Made};
-ghost use Rattle.ada_image.specs.ImageOfStatements.{inside, inside_if, branch_put, elsifs_put};
-ghost use Rattle.ada_image.specs.ImageOfStatements.{if_put, alternatives_put, case_put};
+ghost use Rattle.ada_image.specs.ImageOfStatements.{alternatives_put, branch_put, case_put};
+ghost use Rattle.ada_image.specs.ImageOfStatements.{if_put, inside, inside_if};
 ghost use Rattle.image_compounds.specs.Parts.{alternative_made};
 
 use crate::making::MakeSequence;
 use ada_image::{Lists, SequencePlace, Within};
-use ada_tree::{Case, CaseAlternative, Elsif, Expression, If, OneOrMore};
+use ada_tree::{Case, CaseAlternative, Expression, If, OneOrMore};
 use ann_base::NoMemory;
 use image_layout::the_action;
 use image_parts::{case_action, if_action};
@@ -65,39 +65,8 @@ fn branch_put<W, Q: MakeSequence<W>>(
     if_action(lists, within, condition, first, otherwise, next)
 }
 
-/// The branches behind `elsif`, from the last to the first (5.3).
-#[tactic(auto, using(std::proofs::lemmas::List::drop_all, image_layout::proofs::Drops::one_before), unfolding(ada_image::specs::ImageOfStatements::elsifs_put))]
-fn elsifs_put<W, Q: MakeSequence<W>>(
-    alloc: Global,
-    lists: &mut Lists,
-    within: &Within<'_, '_>,
-    elsifs: &[Elsif<Q>],
-    otherwise: Option<StatementNo>,
-    next: Option<StatementNo>,
-) -> Result<Option<StatementNo>, NoMemory>
-    ensures { Made (elsifs_put Q.making within.now elsifs.now otherwise next) lists.old lists.new
-        result }
-{
-    let mut later = otherwise;
-    let mut place = elsifs.len();
-    while place > 0 {
-        place -= 1;
-        let elsif = &elsifs[place];
-        later = branch_put(
-            alloc,
-            lists,
-            within,
-            &elsif.condition,
-            &elsif.statements,
-            later,
-            next,
-        )?;
-    }
-    Ok(later)
-}
-
-/// An if statement (5.3).
-#[tactic(auto, unfolding(ada_image::specs::ImageOfStatements::if_put))]
+/// An if statement (5.3). Its branches are made from the last to the first.
+#[tactic(auto, using(std::proofs::lemmas::List::drop_all, image_layout::proofs::Drops::one_before), unfolding(ada_image::specs::ImageOfStatements::if_put, ada_image::specs::ImageOfStatements::elsifs_put))]
 pub fn if_put<W, Q: MakeSequence<W>>(
     alloc: Global,
     lists: &mut Lists,
@@ -107,18 +76,17 @@ pub fn if_put<W, Q: MakeSequence<W>>(
 ) -> Result<Option<StatementNo>, NoMemory>
     ensures { Made (if_put Q.making within.now statement.now next) lists.old lists.new result }
 {
-    let otherwise = inside_if(alloc, lists, &statement.otherwise, within, next)?;
+    let mut later = inside_if(alloc, lists, &statement.otherwise, within, next)?;
     let elsifs = statement.elsifs.as_slice();
-    let later = elsifs_put(alloc, lists, within, elsifs, otherwise, next)?;
-    branch_put(
-        alloc,
-        lists,
-        within,
-        &statement.condition,
-        &statement.statements,
-        later,
-        next,
-    )
+    let mut place = elsifs.len();
+    while place > 0 {
+        place -= 1;
+        let elsif = &elsifs[place];
+        let (condition, statements) = (&elsif.condition, &elsif.statements);
+        later = branch_put(alloc, lists, within, condition, statements, later, next)?;
+    }
+    let (condition, statements) = (&statement.condition, &statement.statements);
+    branch_put(alloc, lists, within, condition, statements, later, next)
 }
 
 /// An alternative of a case statement.

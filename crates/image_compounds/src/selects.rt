@@ -2,13 +2,11 @@
 //! their own, which lead to those behind them.
 ghost use Rattle.std.specs.Prelude.{◌∷◌};
 ghost use Rattle.ada_image.specs.Made.{Made};
-ghost use Rattle.ada_image.specs.ImageOfStatements.{guard_of, alternative_put};
+ghost use Rattle.ada_image.specs.ImageOfStatements.{asynchronous_put, call_before};
+ghost use Rattle.ada_image.specs.ImageOfStatements.{conditional_call_put, delay_before};
 ghost use Rattle.ada_image.specs.ImageOfStatements.{select_alternative_put};
-ghost use Rattle.ada_image.specs.ImageOfStatements.{select_alternatives_put, signs_in_alternatives};
-ghost use Rattle.ada_image.specs.ImageOfStatements.{else_put, selective_accept_put, call_before};
-ghost use Rattle.ada_image.specs.ImageOfStatements.{delay_before, timed_call_put};
-ghost use Rattle.ada_image.specs.ImageOfStatements.{conditional_call_put, trigger_put};
-ghost use Rattle.ada_image.specs.ImageOfStatements.{asynchronous_put, select_put};
+ghost use Rattle.ada_image.specs.ImageOfStatements.{select_alternatives_put, select_put};
+ghost use Rattle.ada_image.specs.ImageOfStatements.{selective_accept_put, timed_call_put};
 
 use crate::blocks::accept_put;
 use crate::branches::{inside, inside_if};
@@ -31,35 +29,8 @@ use profile_image::{
 };
 use std::alloc::Global;
 
-/// An alternative of a selective accept, without its guard.
-#[tactic(auto, unfolding(ada_image::specs::ImageOfStatements::alternative_put))]
-fn alternative_put<W, Q: MakeSequence<W>>(
-    alloc: Global,
-    lists: &mut Lists,
-    within: &Within<'_, '_>,
-    alternative: &Alternative<Q>,
-    next: Option<StatementNo>,
-) -> Result<SelectKind, NoMemory>
-    ensures { Made (alternative_put Q.making within.now alternative.now next) lists.old lists.new
-        result }
-{
-    match alternative {
-        Alternative::Accept { accept, statements } => {
-            let behind = inside_if(alloc, lists, statements, within, next)?;
-            let s = accept_put(alloc, lists, within, accept, behind)?;
-            Ok(SelectKind::Accept(the_action(s)))
-        }
-        Alternative::Delay { delay, statements } => {
-            let behind = inside_if(alloc, lists, statements, within, next)?;
-            let s = delay_put(lists, within, delay, behind)?;
-            Ok(SelectKind::Delay(the_action(s)))
-        }
-        Alternative::Terminate { .. } => Ok(SelectKind::Terminate),
-    }
-}
-
 /// An alternative of a selective accept with its guard (9.7.1).
-#[tactic(auto, unfolding(ada_image::specs::ImageOfStatements::select_alternative_put))]
+#[tactic(auto, unfolding(ada_image::specs::ImageOfStatements::select_alternative_put, ada_image::specs::ImageOfStatements::alternative_put, ada_image::specs::ImageOfStatements::delay_before))]
 fn select_alternative_put<W, Q: MakeSequence<W>>(
     alloc: Global,
     lists: &mut Lists,
@@ -71,7 +42,18 @@ fn select_alternative_put<W, Q: MakeSequence<W>>(
         lists.new result }
 {
     let guard = optional_value(lists, within, guard_of(&alternative.guard))?;
-    let kind = alternative_put(alloc, lists, within, &alternative.alternative, next)?;
+    let kind = match &alternative.alternative {
+        Alternative::Accept { accept, statements } => {
+            let behind = inside_if(alloc, lists, statements, within, next)?;
+            let s = accept_put(alloc, lists, within, accept, behind)?;
+            SelectKind::Accept(the_action(s))
+        }
+        Alternative::Delay { delay, statements } => {
+            let s = delay_before(alloc, lists, within, delay, statements, next)?;
+            SelectKind::Delay(the_action(s))
+        }
+        Alternative::Terminate { .. } => SelectKind::Terminate,
+    };
     Ok(GuardedAlternative { guard, kind })
 }
 
@@ -98,24 +80,8 @@ fn select_alternatives_put<W, Q: MakeSequence<W>>(
     Ok(made)
 }
 
-#[tactic(auto, unfolding(ada_image::specs::ImageOfStatements::else_put))]
-fn else_put<W, Q: MakeSequence<W>>(
-    alloc: Global,
-    lists: &mut Lists,
-    within: &Within<'_, '_>,
-    otherwise: &Option<Q>,
-    next: Option<StatementNo>,
-) -> Result<Option<StatementNo>, NoMemory>
-    ensures { Made (else_put Q.making within.now otherwise.now next) lists.old lists.new result }
-{
-    match otherwise {
-        None => Ok(None),
-        Some(otherwise) => inside(alloc, lists, otherwise, within, next),
-    }
-}
-
 /// A selective accept (9.7.1).
-#[tactic(auto, unfolding(ada_image::specs::ImageOfStatements::selective_accept_put))]
+#[tactic(auto, unfolding(ada_image::specs::ImageOfStatements::selective_accept_put, ada_image::specs::ImageOfStatements::else_put))]
 fn selective_accept_put<W, Q: MakeSequence<W>>(
     alloc: Global,
     lists: &mut Lists,
@@ -128,7 +94,10 @@ fn selective_accept_put<W, Q: MakeSequence<W>>(
 {
     let signs = signs_in_alternatives(within, &select.alternatives)?;
     let alternatives = select_alternatives_put(alloc, lists, within, &select.alternatives, next)?;
-    let otherwise = else_put(alloc, lists, within, &select.otherwise, next)?;
+    let otherwise = match &select.otherwise {
+        None => None,
+        Some(otherwise) => inside(alloc, lists, otherwise, within, next)?,
+    };
     let form = StatementForm::SelectiveAccept {
         alternatives,
         otherwise,
@@ -221,26 +190,8 @@ fn conditional_call_put<W, Q: MakeSequence<W>>(
     action_put(lists, form, signs, next)
 }
 
-#[tactic(auto, unfolding(ada_image::specs::ImageOfStatements::trigger_put))]
-fn trigger_put<W, Q: MakeSequence<W>>(
-    alloc: Global,
-    lists: &mut Lists,
-    within: &Within<'_, '_>,
-    trigger: &Trigger,
-    statements: &Option<Q>,
-    next: Option<StatementNo>,
-) -> Result<Option<StatementNo>, NoMemory>
-    ensures { Made (trigger_put Q.making within.now trigger.now statements.now next) lists.old
-        lists.new result }
-{
-    match trigger {
-        Trigger::Call(call) => call_before(alloc, lists, within, call, statements, next),
-        Trigger::Delay(delay) => delay_before(alloc, lists, within, delay, statements, next),
-    }
-}
-
 /// An asynchronous select (9.7.4). What is aborted ends inside it.
-#[tactic(auto, unfolding(ada_image::specs::ImageOfStatements::asynchronous_put))]
+#[tactic(auto, unfolding(ada_image::specs::ImageOfStatements::asynchronous_put, ada_image::specs::ImageOfStatements::trigger_put))]
 fn asynchronous_put<W, Q: MakeSequence<W>>(
     alloc: Global,
     lists: &mut Lists,
@@ -253,14 +204,11 @@ fn asynchronous_put<W, Q: MakeSequence<W>>(
 {
     let signs = signs_in_trigger(within, &select.trigger)?;
     let s = reserved(lists)?;
-    let trigger = trigger_put(
-        alloc,
-        lists,
-        within,
-        &select.trigger,
-        &select.statements,
-        next,
-    )?;
+    let behind = &select.statements;
+    let trigger = match &select.trigger {
+        Trigger::Call(call) => call_before(alloc, lists, within, call, behind, next)?,
+        Trigger::Delay(delay) => delay_before(alloc, lists, within, delay, behind, next)?,
+    };
     let inner = in_construct(within, s);
     let abortable = inside(alloc, lists, &select.abortable, &inner, None)?;
     let form = StatementForm::AsynchronousSelect {

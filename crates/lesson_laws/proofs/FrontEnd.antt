@@ -317,35 +317,36 @@ unfolding completed_in headed owned numbered_if body_of_declared completed_or_de
     exported_from visible_in same_denoted sought resolved
 naming = tt
 
-unfoldable pub building : ⊤
-unfolding entity_call_put item_call_put denoted_call_put signs_in_actuals call_statement_put target_made
-    variable_in_form variable_in in_made out_made in_out_made mode_made thing_actual actual_made actuals_made
-    arguments_made callee_of owner_of_entry call_put entry_call_put call_of_kind call_of_name function_call
-    function_call_put piece_of_type image_piece value_or_none image_made piece_in_form piece_made joined_made
-    all_joined pieces_in_form pieces_made put_line_put kind_declared number_declared subtype_declared_as
-    signs_of_components signs_of_type signs_of_object initialize_if function_call_if object_declaration_put
-    object_elaborated object_put objects_put single_put object_makes_task declaration_put declarations_put
-    makes_task make_tasks activation_put end_of_activation_put subprogram_declared_as body_put operation_body_put
-    operation_bodies_put inner_body_put inner_bodies_put unhandled_put with_handlers_put handled_put whole_put
-    parts_put prefix_part object_outside object_before named_before component_name object_of_kind kind_named
-    object_named thing_named thing_in index_made variable_made variable_put unary_made binary_put signed_made
-    count_of count_made attribute_made object_made entity_made argument_from arguments_from actuals_for
-    image_or_none optional_made span_made same_ticks_made of_task_made port_made of_thing_made function_made
-    calls_predefined item_made denoted_made named_made signs_in_arguments call_counts signs_in_operands
-    signs_in_addends signs_in_factors operands_made addends_made factors_made logical_made relational_made
-    adding_made multiplying_made expression_made optional_value signs_in signs_if thing_of variable_of
-    innermost_object object_of_handler handler_with handler_of_of_imageofprocedures moment_of is_in_time
-    setting_made set_event_put set_timer_put cancel_put budget_put task_put values_put procedure_with
-    procedure_put position_of_scope scope_at array_name array_assigned controlled_assigned value_assigned
-    assigned_whole assigned assignment_put delay_put value_returned return_put raised_item exception_denoted
-    exception_named raise_put has_label loop_left exit_put static_or_zero choice_made choices_made handled_made
-    entry_at abort_put unit_of_entry requeue_put signs_in_trigger label_of parameter_of_of_imageofstatements
-    signs_in_alternative signs_in_alternatives inside inside_if branch_put elsifs_put if_put alternatives_put
-    case_put loop_body forever_put while_put for_put iteration_put loop_put block_put handlers_put accept_body_put
-    accept_put alternative_put select_alternative_put select_alternatives_put else_put selective_accept_put
-    call_before delay_before timed_call_put conditional_call_put trigger_put asynchronous_put select_put
-    statement_put statements_put declarations_of_package declares_package has_body declared_by_package part_from
-    part_of package_declaration_put package_part package_statements_put package_body_put package_put packages_put
+-- all but call_statement_put
+unfoldable pub building_around_calls : ⊤
+unfolding entity_call_put item_call_put denoted_call_put signs_in_actuals target_made variable_in_form variable_in
+    in_made out_made in_out_made mode_made thing_actual actual_made actuals_made arguments_made callee_of
+    owner_of_entry call_put entry_call_put call_of_kind call_of_name function_call function_call_put piece_of_type
+    image_piece value_or_none image_made piece_in_form piece_made joined_made all_joined pieces_in_form
+    pieces_made put_line_put kind_declared number_declared subtype_declared_as signs_of_components signs_of_type
+    signs_of_object initialize_if function_call_if object_declaration_put object_elaborated object_put objects_put
+    single_put object_makes_task declaration_put declarations_put makes_task make_tasks activation_put
+    end_of_activation_put subprogram_declared_as body_put operation_body_put operation_bodies_put inner_body_put
+    inner_bodies_put unhandled_put with_handlers_put handled_put whole_put parts_put prefix_part object_outside
+    object_before named_before component_name object_of_kind kind_named object_named thing_named thing_in
+    index_made variable_made variable_put unary_made binary_put signed_made count_of count_made attribute_made
+    object_made entity_made argument_from arguments_from actuals_for image_or_none optional_made span_made
+    same_ticks_made of_task_made port_made of_thing_made function_made calls_predefined item_made denoted_made
+    named_made signs_in_arguments call_counts signs_in_operands signs_in_addends signs_in_factors operands_made
+    addends_made factors_made logical_made relational_made adding_made multiplying_made expression_made
+    optional_value signs_in signs_if thing_of variable_of innermost_object object_of_handler handler_with
+    handler_of_of_imageofprocedures moment_of is_in_time setting_made set_event_put set_timer_put cancel_put
+    budget_put task_put values_put procedure_with procedure_put position_of_scope scope_at array_name
+    array_assigned controlled_assigned value_assigned assigned_whole assigned assignment_put delay_put
+    value_returned return_put raised_item exception_denoted exception_named raise_put has_label loop_left exit_put
+    static_or_zero choice_made choices_made handled_made entry_at abort_put unit_of_entry requeue_put
+    signs_in_trigger label_of parameter_of_of_imageofstatements signs_in_alternative signs_in_alternatives inside
+    inside_if branch_put elsifs_put if_put alternatives_put case_put loop_body forever_put while_put for_put
+    iteration_put loop_put block_put handlers_put accept_body_put accept_put alternative_put
+    select_alternative_put select_alternatives_put else_put selective_accept_put call_before delay_before
+    timed_call_put conditional_call_put trigger_put asynchronous_put select_put statement_put statements_put
+    declarations_of_package declares_package has_body declared_by_package part_from part_of
+    package_declaration_put package_part package_statements_put package_body_put package_put packages_put
     scalar_initial scalar_or_array initial_of_call initial_made kind_of_type kind_with_task kind_of_subtype
     kind_of_sort range_if_value range_of_sort numbered_object declaration_made declarations_made actions_made
     all_made main_of_of_imageofunits program_with program_from program_of array_of_of_layout cell_subtype
@@ -362,9 +363,14 @@ unfolding entity_call_put item_call_put denoted_call_put signs_in_actuals call_s
     entries_made components_from component_numbers inserted attached_interrupt inserted_if attachments_from
     attachments_of default_ceiling protected_unit_made protected_units_made is_of_type has_one_of_type overrides
     overriding_from overriding controlled_type_made controlled_types_made item_at with_item put
+building_around_calls = tt
+
+unfoldable pub building : ⊤
+unfolding building_around_calls call_statement_put
 building = tt
 
-unfoldable pub judging : ⊤
+-- all but call_found
+unfoldable pub judging_around_calls : ⊤
 unfolding aspect_named static_level aspect_with_value aspect_alone aspect_read aspects_read may_have_aspect
     is_priority_value stands_before_in wrong_priority wrong_cpu wrong_deadline wrong_interrupt priority_judged
     attachment_noted interrupt_judged aspect_judged aspects_from aspects_judged aspects_found if_priority_value
@@ -375,10 +381,10 @@ unfolding aspect_named static_level aspect_with_value aspect_alone aspect_read a
     is_own_entry value_found value_alone_found condition_found pair_judged bounds_judged bounds_found bounds_if
     type_of_mark may_be_indicated type_fits_indication is_fitting_mark has_other_discriminant component_judged
     mark_judged indication_found parameter_found formal_names_of parameters_found line_judged call_judged
-    call_found formals_of_kind parts_of_operation formal_names named_parts formals_of_operation has_named
-    moment_is_span formals_of_item formals_denoted given_before is_for_a_formal stray_actuals is_misnamed
-    some_are_misnamed all_given wrong_actuals actual_from selector_judged choice_number value_choice range_choice
-    choice_read choices_read meet meets_before repeated_choices others_not_last ends_of whole_range_of range_typed
+    formals_of_kind parts_of_operation formal_names named_parts formals_of_operation has_named moment_is_span
+    formals_of_item formals_denoted given_before is_for_a_formal stray_actuals is_misnamed some_are_misnamed
+    all_given wrong_actuals actual_from selector_judged choice_number value_choice range_choice choice_read
+    choices_read meet meets_before repeated_choices others_not_last ends_of whole_range_of range_typed
     behind_range behind_ranges reached covers is_complete wrong_choices case_judged is_library_name
     is_task_outside_library is_outside_deadlines task_judged protected_unit_of_name protected_noted constant_noted
     timer_noted typed_object_judged object_judged object_found component_found is_too_long array_judged
@@ -427,4 +433,8 @@ unfolding aspect_named static_level aspect_with_value aspect_alone aspect_read a
     has_attached handlers_of_object taken_number numbers_of_object ceiling_of in_deadline_range range_judged
     names_task judged_beside judged_from passing_cells found_beside number_of_literal literal_number
     number_of_expression static_number same_named any_in_body any_in_sequence
+judging_around_calls = tt
+
+unfoldable pub judging : ⊤
+unfolding judging_around_calls call_found
 judging = tt

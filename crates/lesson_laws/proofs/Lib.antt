@@ -11,3 +11,4 @@ pub mod TaskSource
 pub mod ProtectedSource
 pub mod RendezvousSource
 pub mod AbortSource
+pub mod HelloSource

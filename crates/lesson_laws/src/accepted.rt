@@ -4,6 +4,7 @@ ghost use Rattle.std.specs.Prelude.{◌≡◌, [], Ok};
 ghost use Rattle.ada_verdicts.specs.Accepted.{judged};
 ghost use Rattle.profile_machine.specs.Run.{lines_of_run};
 ghost use Rattle.trace_text.specs.Text.{text_of};
+ghost use Rattle.lesson_laws.specs.HelloSource.{hello_source, hello_image, hello_trace};
 ghost use Rattle.lesson_laws.specs.LeastSource.{least_source, least_image, least_trace};
 ghost use Rattle.lesson_laws.specs.TaskSource.{task_source, task_image, task_trace};
 ghost use Rattle.lesson_laws.specs.ProtectedSource.{protected_source};
@@ -47,4 +48,11 @@ pub fn rendezvous_from_bytes()
 pub fn abort_from_bytes()
     ensures judged { judged abort_source ≡ Ok abort_image }
     ensures runs { text_of (lines_of_run abort_image [] 100) ≡ abort_trace }
+{}
+
+/// The first lesson, `examples/hello.adb`: a line is put.
+#[tactic(auto, using(crate::proofs::HelloSource::hello_is_judged, crate::proofs::HelloSource::hello_runs))]
+pub fn hello_from_bytes()
+    ensures judged { judged hello_source ≡ Ok hello_image }
+    ensures runs { text_of (lines_of_run hello_image [] 100) ≡ hello_trace }
 {}

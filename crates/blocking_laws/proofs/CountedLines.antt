@@ -92,7 +92,8 @@ counted-known count bases _ h e = refl
 
 module _ (lawful : List (ℕ × ℕ) → Event → Bool)
     (right : (count : ℕ) (bases : List (ℕ × ℕ)) (event : Event) → Tells_counted count bases → counts count event ≡ true → lawful bases event ≡ true) where
-  counted-follows : (count : ℕ) (bases : List (ℕ × ℕ)) (lines : List TraceLine) → Tells_counted count bases → follows_lines count_after counts count lines ≡ true
+  counted-follows : (count : ℕ) (bases : List (ℕ × ℕ)) (lines : List TraceLine) → Tells_counted count bases
+      → follows_lines count_after counts count lines ≡ true
       → follows_lines bases_after lawful bases lines ≡ true
   counted-follows count bases [] h e = refl
   counted-follows count bases (x ∷ xs) h e =

@@ -193,7 +193,9 @@ module _ (p : Image) (low : edf_is_below_interrupts p ≡ true) where
     may_held = λ w o mode e. tt;
     may_on = λ a b o same m. tt;
     enters = λ o mode. from-leads (says Own (line.Enter actor o mode)) (λ w said h. h.0) (rightly_says Own (line.Enter actor o mode) refl);
-    finds_held = λ o mode. from-leads _ (λ w said h. h.0) (later-leads (says Own (line.Held actor o mode)) (λ w said h. h) (rightly_says Own (line.Held actor o mode) refl));
+    finds_held =
+        λ o mode.
+        from-leads _ (λ w said h. h.0) (later-leads (says Own (line.Held actor o mode)) (λ w said h. h) (rightly_says Own (line.Held actor o mode) refl));
     bases_first = λ t level. rightly_bases (part_of actor (who.Task t)) t level;
     bases = λ t level. rightly_bases ThePlacing t level;
     defers =

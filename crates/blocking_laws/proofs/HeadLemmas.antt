@@ -200,7 +200,8 @@ module _ (actor : Who) (p : Image) where
         from-leads (says Own (line.Enter actor o mode)) (λ w said h. h.0) (own_says (Some actor) p Own (line.Enter actor o mode) (somebody_self actor));
     finds_held =
         λ o mode.
-        from-leads _ (λ w said h. h.0) (later-leads (says Own (line.Held actor o mode)) (λ w said h. h) (own_says (Some actor) p Own (line.Held actor o mode) (somebody_self actor)));
+        from-leads _ (λ w said h. h.0)
+        (later-leads (says Own (line.Held actor o mode)) (λ w said h. h) (own_says (Some actor) p Own (line.Held actor o mode) (somebody_self actor)));
     bases_first = λ t level. own_bases (Some actor) p (part_of actor (who.Task t)) t level;
     bases = λ t level. own_bases (Some actor) p ThePlacing t level;
     defers = λ t deferred. own_alters (Some actor) p _;

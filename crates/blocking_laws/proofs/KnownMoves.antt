@@ -368,7 +368,8 @@ module _ {p : Image} {Fits : Part → Type 0} {d : ℕ} {X : State} (base : Know
     looks_at = λ v said h. (h, (base.numbers v said h).drawn);
     looked = λ v w said h. h.0;
     looking = λ v. const_quiet base.quiet;
-    begins = λ v name apart listed. const_keeps (ready p (OfOther name) name) (λ is. ready-known (OfOther name) name (other name) (since-drawn v name is listed));
+    begins =
+        λ v name apart listed. const_keeps (ready p (OfOther name) name) (λ is. ready-known (OfOther name) name (other name) (since-drawn v name is listed));
     runs_on = λ v. changes-keeps _ (const_alters _ (with_state-alters actor Runnable));
     says_blocked = λ waiting. says_block-known actor waiting;
     settles = λ w said waits h. h;
@@ -380,7 +381,8 @@ module _ {p : Image} {Fits : Part → Type 0} {d : ℕ} {X : State} (base : Know
       then-keeps _ _ (begin_accept-keeps base.quiet p TheFinish (who.Task t) s c)
       (then-keeps _ _ (finish_without_room-keeps base.quiet TheFinish (who.Task t) c)
       (then-keeps _ _
-      (deliver-keeps (fine_base (base_known (λ part name. Fits part) (λ part name f. f))) TheFinish c.number (call_ended.ToRaise exception.Storage) (λ name. fits))
+      (deliver-keeps (fine_base (base_known (λ part name. Fits part) (λ part name f. f))) TheFinish c.number (call_ended.ToRaise exception.Storage)
+      (λ name. fits))
       (then-keeps _ _ (ready-known TheFinish (who.Task t) fits drawn) (raises-keeps (fine base.quiet) TheFinish (who.Task t) exception.Storage))))
 
 -- ---- one state or the other
@@ -411,7 +413,8 @@ either-base : {p : Image} {Parts : Fitting} {X Y : State} → BaseMoves p Parts 
 either-base {p} {Parts} {X} {Y} a b = record {
   quiet = either-quiet a.quiet b.quiet;
   inherits =
-      λ name cause level w said other h. either_by h (λ k. inl (a.inherits name cause level w said other k)) (λ k. inr (b.inherits name cause level w said other k));
+      λ name cause level w said other h.
+      either_by h (λ k. inl (a.inherits name cause level w said other k)) (λ k. inr (b.inherits name cause level w said other k));
   sleeps = a.sleeps;
   sleeps_on = a.sleeps_on;
   sleeps_behind = a.sleeps_behind;

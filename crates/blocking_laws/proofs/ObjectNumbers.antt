@@ -223,7 +223,9 @@ module _ (p : Image) (s : Shown) where
     may_held = λ w o mode e. tt;
     may_on = λ a b o same m. tt;
     enters = λ o mode. from-leads (says Own (line.Enter actor o mode)) (λ w said h. h.0) (drawn_says Own (line.Enter actor o mode) refl);
-    finds_held = λ o mode. from-leads _ (λ w said h. h.0) (later-leads (says Own (line.Held actor o mode)) (λ w said h. h) (drawn_says Own (line.Held actor o mode) refl));
+    finds_held =
+        λ o mode.
+        from-leads _ (λ w said h. h.0) (later-leads (says Own (line.Held actor o mode)) (λ w said h. h) (drawn_says Own (line.Held actor o mode) refl));
     bases_first = λ t level. drawn_bases (part_of actor (who.Task t)) t level;
     bases = λ t level. drawn_bases ThePlacing t level;
     defers = λ t deferred. drawn_edits (who.Task t) (λ u. record u { deferred_base = deferred });

@@ -13,7 +13,8 @@ use Rattle.ceiling_laws.proofs.Runs.Kept.Waking.{who-is}
 use Rattle.ceiling_laws.proofs.Runs.LevelMoves.{Silences, is_apart, said_so}
 use Rattle.ceiling_laws.proofs.Runs.RunLemmas.{Instants, Settles, instant_onward, settles_onward}
 use Rattle.ceiling_laws.proofs.Runs.TockLemmas.{tock-same}
-use Rattle.ceiling_laws.proofs.Runs.Triples.{Alters, Ends, Keeps, Leads, State, With, changes-keeps, changes-leads, for_some-keeps, from-leads, looks-keeps, then-keeps, then-leads}
+use Rattle.ceiling_laws.proofs.Runs.Triples.{Alters, Ends, Keeps, Leads, State, With, changes-keeps, changes-leads}
+use Rattle.ceiling_laws.proofs.Runs.Triples.{for_some-keeps, from-leads, looks-keeps, then-keeps, then-leads}
 use Rattle.ceiling_laws.specs.Cores.{Same, is_delayed}
 use Rattle.line_laws.proofs.Ticks.LineByLine.{Follow, Follow-all, Leads_on, OfRuns, run-follows, seen_behind}
 use Rattle.line_laws.proofs.Ticks.ReleaseLemmas.{events_of}
@@ -50,7 +51,8 @@ use Rattle.profile_machine.specs.declared.world.marks.Purpose.TheVariants as ope
 use Rattle.profile_machine.specs.declared.world.scopes.Located.{Located}
 use Rattle.profile_machine.specs.declared.world.scopes.ScopeId.{ScopeId}
 use Rattle.profile_machine.specs.declared.world.tasks.Task.{Task}
-use Rattle.std.proofs.Common.{List, None, Option, Some, [], ap, arith, eq-eqb, false, inl, inr, le_refl, map, not, refl, subst, suc, sym, true, ℕ, ◌++◌, ◌-◌, ◌∙◌, ◌∷◌, ◌≡◌, ◌⊎◌}
+use Rattle.std.proofs.Common.{List, None, Option, Some, [], ap, arith, eq-eqb, false, inl, inr, le_refl}
+use Rattle.std.proofs.Common.{map, not, refl, subst, suc, sym, true, ℕ, ◌++◌, ◌-◌, ◌∙◌, ◌∷◌, ◌≡◌, ◌⊎◌}
 use Rattle.std.specs.Prelude.{ℤ}
 use Rattle.trace_text.proofs.LawsFollowed.{lines_hold}
 use Rattle.trace_text.specs.Laws.{bases_after}
@@ -61,7 +63,8 @@ use Rattle.trace_text.specs.declared.events.Who.{Who}
 use Rattle.trace_text.specs.declared.events.Who.TheVariants as who
 use Rattle.ceiling_laws.proofs.Runs.BegunLines.{Begun, Each, begun-append, begun-first, begun-in_order, each-append, each-in_order}
 use Rattle.blocking_laws.proofs.CountedLines.{count_after, counts, known-follows, new-follows}
-use Rattle.blocking_laws.proofs.KnownMoves.{IsDrawn, IsNumbered, KnownBase, KnownMoves, edited-names, known_others, knowing, names_drawn, tested-drawn, to_tail-known}
+use Rattle.blocking_laws.proofs.KnownMoves.{IsDrawn, IsNumbered, KnownBase, KnownMoves, edited-names}
+use Rattle.blocking_laws.proofs.KnownMoves.{known_others, knowing, names_drawn, tested-drawn, to_tail-known}
 use Rattle.blocking_laws.specs.TaskLines.{RunsNumberTasks, RunsPlaceKnown, is_task_new, places_known}
 
 -- ---- worlds
@@ -95,13 +98,15 @@ numbered-appoint d t moment w own h = record {
   drawn = h.drawn;
   names = h.names;
   delays =
-      λ u e. appointed d t u w own (h.delays u) (put-either (λ (a : Appointment). is_delay_of u a.due) (record { due = due_for.Delay t; moment = moment }) w.appointments e);
+      λ u e. appointed d t u w own (h.delays u)
+      (put-either (λ (a : Appointment). is_delay_of u a.due) (record { due = due_for.Delay t; moment = moment }) w.appointments e);
 }
 
 numbered-add : (d : ℕ) (t : Task) (w : World) → t.who ≡ who.Task (record { 0 = d }) → IsNumbered d w → IsNumbered (suc d) (add_task t w)
 numbered-add d t w named h = record {
   drawn = ap (λ n. suc n) h.drawn;
-  names = subst (NamesFrom 0 (suc d)) (sym (whose-append w.tasks t ∙ ap (λ n. map whose w.tasks ++ n ∷ []) named)) (names_behind 0 d (map whose w.tasks) h.names);
+  names =
+      subst (NamesFrom 0 (suc d)) (sym (whose-append w.tasks t ∙ ap (λ n. map whose w.tasks ++ n ∷ []) named)) (names_behind 0 d (map whose w.tasks) h.names);
   delays = λ u e. drawn-on d u (h.delays u e);
 }
 
@@ -259,7 +264,8 @@ module _ (p : Image) (d : ℕ) where
         turns = λ w said h. (record { drawn = h.0.drawn; names = h.0.names; delays = h.0.delays }, h.1);
       }))
       (looks-keeps _
-      (λ w. (still_base d p).tells Own (line.New (created.Object (record { 0 = w.drawn.objects })) (Some l.declared) (protected_unit_of p u).ceiling) (λ n. refl)))
+      (λ w. (still_base d p).tells Own (line.New (created.Object (record { 0 = w.drawn.objects })) (Some l.declared) (protected_unit_of p u).ceiling)
+      (λ n. refl)))
 
   moves : (actor : Who) → IsDrawn d actor → KnownMoves p actor d (Told (Stills d) d) (Told (Made d) (suc d))
   moves actor drawn = record {
@@ -351,13 +357,19 @@ stills_settle : (p : Image) (d : ℕ) → Settles count_after counts IsNumbered 
 unfolding Told
 stills_settle p d v xs h =
     let counted = stills-counted p d (in_order xs) (each-in_order (Still d) xs h.1) in
-    record { follow = counted.0; shows = subst (λ n. IsNumbered n (placed_by (lines_of p xs) v)) (sym counted.1) (record { drawn = h.0.drawn; names = h.0.names; delays = h.0.delays }) }
+    record {
+      follow = counted.0;
+      shows = subst (λ n. IsNumbered n (placed_by (lines_of p xs) v)) (sym counted.1) (record { drawn = h.0.drawn; names = h.0.names; delays = h.0.delays });
+    }
 
 made_settles : (p : Image) (d : ℕ) → Settles count_after counts IsNumbered p d (Told (Made d) (suc d))
 unfolding Told
 made_settles p d v xs h =
     let counted = made-counted p d (in_order xs) (made-in_order d xs h.1) in
-    record { follow = counted.0; shows = subst (λ n. IsNumbered n (placed_by (lines_of p xs) v)) (sym counted.1) (record { drawn = h.0.drawn; names = h.0.names; delays = h.0.delays }) }
+    record {
+      follow = counted.0;
+      shows = subst (λ n. IsNumbered n (placed_by (lines_of p xs) v)) (sym counted.1) (record { drawn = h.0.drawn; names = h.0.names; delays = h.0.delays });
+    }
 
 all_settle : (p : Image) (d : ℕ)
     → Settles count_after counts IsNumbered p d (Either (Told (Stills d) d) (Either (Told (Stills d) d) (Told (Made d) (suc d))))
@@ -397,7 +409,8 @@ tock_lines-still d (x ∷ xs) a = ap (λ n. seen_behind count_after counts n xs)
 tocks_lead : (p : Image) (d : ℕ) (w : World) → IsNumbered d w → Leads_on count_after counts IsNumbered d (tock p w).1 (tock p w).0
 tocks_lead p d w h = record {
   follow = Follow-all count_after counts is_of_tock tock-right d (tock p w).1 (tocks_say_ticks p w);
-  shows = subst (λ n. IsNumbered n (tock p w).0) (sym (tock_lines-still d (tock p w).1 (tocks_say_ticks p w))) (numbered-same d w (tock p w).0 (tock-same p w) h);
+  shows =
+      subst (λ n. IsNumbered n (tock p w).0) (sym (tock_lines-still d (tock p w).1 (tocks_say_ticks p w))) (numbered-same d w (tock p w).0 (tock-same p w) h);
 }
 
 blank-numbered : (p : Image) (script : List (ℤ × Item)) → IsNumbered 1 (blank_world p script)

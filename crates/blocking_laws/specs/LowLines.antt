@@ -1,5 +1,5 @@
--- A task enters no object whose ceiling is below its base priority, and finds no such object held: a law on lists of lines, of
--- every run (D.3).
+-- A task enters no object whose ceiling is below its base priority, and finds no such object held: a law on lists of
+-- lines, of every run (D.3).
 use Rattle.std.specs.Prelude.{ℕ, ℤ, Bool, true, IsTrue, List}
 use Rattle.ann_base.specs.declared.identities.ObjectNo.{ObjectNo}
 use Rattle.trace_text.specs.declared.events.Event.{Event}

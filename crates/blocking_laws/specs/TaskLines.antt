@@ -1,5 +1,5 @@
--- No number of a task is given twice, and only tasks whose base priority is told are placed: laws on lists of lines, of every run
--- (9.1, D.1, D.2.1).
+-- No number of a task is given twice, and only tasks whose base priority is told are placed: laws on lists of lines, of
+-- every run (9.1, D.1, D.2.1).
 use Rattle.std.specs.Prelude.{ℕ, ℤ, Bool, true, IsTrue, List, [], is_none, is_some}
 use Rattle.trace_text.specs.declared.events.Created.TheVariants as created
 use Rattle.trace_text.specs.declared.events.Event.{Event}

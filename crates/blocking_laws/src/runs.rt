@@ -96,7 +96,7 @@ pub fn open_actions_are_those_of_marks()
     ensures { OpenActionsAreTold }
 {}
 
-/// In every run whoever blocks has no protected action open: it waits inside no object (9.5.1, D.3).
+/// In every run whoever blocks has no protected action open: it waits in no object (9.5.1, D.3).
 pub fn who_blocks_has_no_action_open()
     ensures { RunsBlockFree }
 {}

@@ -38,7 +38,8 @@ use Rattle.ada_legality.specs.SimpleStatements.{assignment_found, assignment_jud
 use Rattle.ada_legality.specs.SimpleStatements.{target_judged, type_of_index_of, typed_target}
 use Rattle.ada_legality.specs.Types.{has_type, is_discrete, is_limited, is_root_controlled, typed_by, typed_is}
 use Rattle.ada_legality.specs.Values.{denoted_kind, denotes_function, denotes_object, denotes_value, is_function_kind}
-use Rattle.ada_legality.specs.Values.{is_object_kind, is_predefined_constant, subtype_of_entity, subtype_of_loop, subtype_of_object, subtype_with_index, type_of_constant}
+use Rattle.ada_legality.specs.Values.{is_object_kind, is_predefined_constant, subtype_of_entity}
+use Rattle.ada_legality.specs.Values.{subtype_of_loop, subtype_of_object, subtype_with_index, type_of_constant}
 use Rattle.ada_legality.specs.Values.{typed_call, typed_denoted, typed_name, typed_value}
 use Rattle.image_laws.specs.Clear.{has_values, index_clear}
 use Rattle.image_laws.specs.Laws.{has_value_type, source_clear, target_index_clear}
@@ -123,7 +124,8 @@ module _ (k : Known) (t : ClearTable k) where
         → typed_target k name has ≡ typed_denoted k has d
     unfolding typed_target typed_name
     target-type has d q m =
-        ap (λ x. cond (unwrap_or (option_map (denotes_object k) x) false) (unwrap_or (option_map (typed_denoted k has) x) typing.WithoutType) typing.WithoutType) q
+        ap (λ x.
+        cond (unwrap_or (option_map (denotes_object k) x) false) (unwrap_or (option_map (typed_denoted k has) x) typing.WithoutType) typing.WithoutType) q
         ∙ ap (λ b. cond b (typed_denoted k has d) typing.WithoutType) m
 
     -- an index stands behind an array
@@ -192,7 +194,8 @@ module _ (k : Known) (t : ClearTable k) where
 
   -- ---- the index and the value
 
-  index-known : (name : Name) (i : Option Expression) → denoted_stands k (denoted_by k.names name) ≡ true → loops_stand k (if_there names_in_expression i) ≡ true
+  index-known : (name : Name) (i : Option Expression) → denoted_stands k (denoted_by k.names name) ≡ true
+      → loops_stand k (if_there names_in_expression i) ≡ true
       → faults_in (target_judged k name (is_some i)) ≡ [] → faults_in (found_if (value_found (type_of_index_of k name)) i k) ≡ []
       → target_index_clear (type_of_index_of k name) i k ≡ true
   unfolding value_found

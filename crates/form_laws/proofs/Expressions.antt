@@ -96,7 +96,8 @@ module _ {E : Type 0} (reading : E → Reading) (clear : E → Clear) (names : E
         let q = none-of _ _ p.1 in
         and_from _ _ ((law a.value).at k t parts.0 p.0) (arguments-known rest parts.1 q.1)
 
-    same-has : (xs : List (Argument E)) → not (is_empty (arguments_read same_reading (map (argument_of reading) xs) k).0) ≡ not (is_empty (map (argument_of clear) xs))
+    same-has : (xs : List (Argument E))
+        → not (is_empty (arguments_read same_reading (map (argument_of reading) xs) k).0) ≡ not (is_empty (map (argument_of clear) xs))
     unfolding arguments_read
     same-has [] = refl
     same-has (a ∷ rest) = refl

@@ -96,7 +96,8 @@ module _ (k : Known) (t : ClearTable k) where
       → (holds_of is_object_kind kind && is_none (and_then kind (subtype_of_object k e))) ≡ false
   unclear-none e None c s = refl
   unclear-none e (Some (entity.Literal enumeration position)) c s = refl
-  unclear-none e (Some (entity.Object x constant v declaration)) c s = unless-some _ true (subtype-there e (Some (entity.Object x constant v declaration)) c s refl)
+  unclear-none e (Some (entity.Object x constant v declaration)) c s =
+      unless-some _ true (subtype-there e (Some (entity.Object x constant v declaration)) c s refl)
   unclear-none e (Some (entity.Parameter x mode declaration)) c s = unless-some _ true (subtype-there e (Some (entity.Parameter x mode declaration)) c s refl)
   unclear-none e (Some (entity.LoopParameter declaration)) c s = unless-some _ true (subtype-there e (Some (entity.LoopParameter declaration)) c s refl)
   unclear-none e (Some (entity.Component x owner declaration)) c s = unless-some _ true (subtype-there e (Some (entity.Component x owner declaration)) c s refl)

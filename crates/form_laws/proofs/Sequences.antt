@@ -138,7 +138,8 @@ module _ (level : ℕ) (all : (m : ℕ) → suc m ≤ level → SequencesBuilt m
     operation-sound m less (body_of.Subprogram x b) e h f = subprogram-sound x b (body-sound m less b (and_parts _ _ e).1) h f
     operation-sound m less (body_of.Entry x b) e h f = entry-sound x b (body-sound m less b (and_parts _ _ e).1) h f
 
-    initial-sound : (e : Option Expression) → held_if value_held e k.names es ≡ true → (t : Option AdaType) → faults_in (found_if (value_alone_found t) e k) ≡ []
+    initial-sound : (e : Option Expression) → held_if value_held e k.names es ≡ true → (t : Option AdaType)
+        → faults_in (found_if (value_alone_found t) e k) ≡ []
         → initial_built e k.names ≡ true
     unfolding value_alone_found
     initial-sound None h t f = refl
@@ -236,7 +237,8 @@ module _ (level : ℕ) (all : (m : ℕ) → suc m ≤ level → SequencesBuilt m
   handlers-sound hs e k es s h f =
       all-built k es (handler_found sequence_found) (λ m. handler_held (sequence_held m)) (handler_fits sequence_fits level)
       (λ x. sequence_built x.statements k.names)
-      (λ x fits held found. (statements-built x.statements fits).at (with_around around.Handler k) es (standing-around around.Handler tt k es s) held found) hs e h f
+      (λ x fits held found.
+      (statements-built x.statements fits).at (with_around around.Handler k) es (standing-around around.Handler tt k es s) held found) hs e h f
 
   by-role : (q : Sequence) (at : SequenceRole) → sequence_fits_by sequence_fits (out-Sequence q).parts at level ≡ true → SequenceBuilt q
   by-role q role.Statements e =

@@ -20,7 +20,8 @@ use Rattle.ada_tree.specs.declared.selects.SelectAlternative.{SelectAlternative}
 use Rattle.ada_tree.specs.declared.selects.Alternative.{Alternative}
 use Rattle.ada_tree.specs.declared.selects.Alternative.TheVariants as alternative
 use Rattle.ada_tree.specs.ShapeExpressions.{optional_fits}
-use Rattle.ada_tree.specs.ShapeStatements.{accept_body_fits, accept_fits, accept_opens, alternative_fits, block_role, case_alternative_fits, case_fits, elsif_fits}
+use Rattle.ada_tree.specs.ShapeStatements.{accept_body_fits, accept_fits, accept_opens, alternative_fits}
+use Rattle.ada_tree.specs.ShapeStatements.{block_role, case_alternative_fits, case_fits, elsif_fits}
 use Rattle.ada_tree.specs.ShapeStatements.{if_fits, loop_fits, parts_fit, select_alternative_fits, select_form_fits, statements_fit}
 use Rattle.ada_tree.specs.Shape.{sequence_fits}
 use Rattle.ada_regions.specs.Names.{entity_denoted, kind_at}
@@ -40,7 +41,8 @@ use Rattle.ada_legality.specs.Statements.{conditional_call_found, elsif_found, e
 use Rattle.ada_legality.specs.Statements.{select_form_found, select_found, selective_accept_found, statement_found, timed_call_found}
 use Rattle.ada_legality.specs.Declarations.{sequence_found}
 use Rattle.image_laws.proofs.Forms.Nothing.{none-of}
-use Rattle.form_laws.specs.Loops.{accept_body_held, alternative_held, case_alternative_held, elsif_held, held_if, loops_in, select_alternative_held, select_held}
+use Rattle.form_laws.specs.Loops.{accept_body_held, alternative_held, case_alternative_held}
+use Rattle.form_laws.specs.Loops.{elsif_held, held_if, loops_in, select_alternative_held, select_held}
 use Rattle.form_laws.specs.Loops.{all_held, call_held, sequence_held, statement_held, value_held}
 use Rattle.form_laws.proofs.Assignments.{assignment-sound}
 use Rattle.form_laws.proofs.Parts.{call-sound, return-sound}
